@@ -1,0 +1,4 @@
+-- The laws of the definitions.
+pub mod Finite
+pub mod Steps
+pub mod Read

@@ -1,0 +1,1 @@
+// Definitions and their laws only: see specs/ and proofs/.

@@ -1,0 +1,19 @@
+-- The laws of the theory.
+pub mod Parts
+pub mod Local
+pub mod Bare
+pub mod Classes
+pub mod Answers
+pub mod Reduce
+pub mod Sort
+pub mod Exists
+pub mod Twins
+pub mod Merge
+pub mod Close
+pub mod Check
+pub mod Level
+pub mod Heard
+pub mod Theorem
+pub mod Step
+pub mod Hopeless
+pub mod Sweep

@@ -1,0 +1,9 @@
+-- Tools of the proofs: what the contracts between the crates cite. No promise of a public function rests on believing them.
+pub mod Cells
+pub mod Classes
+pub mod Marks
+pub mod Follow
+pub mod Level
+pub mod Hope
+pub mod Search
+pub mod Sweep
