@@ -1,0 +1,3 @@
+-- How the reader's own types say what model/specs says.
+pub mod Record
+pub mod Cells
