@@ -1,3 +1,4 @@
 -- How the reader's own types say what model/specs says.
 pub mod Record
 pub mod Cells
+pub mod Events

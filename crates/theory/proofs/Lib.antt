@@ -17,3 +17,4 @@ pub mod Theorem
 pub mod Step
 pub mod Hopeless
 pub mod Sweep
+pub mod Rows
