@@ -187,11 +187,13 @@ pub fn read_events(rest: &[u8], base: usize, t: Table) -> EventsEnd
             EventStep::Refused(number) => return EventsEnd { verdict: Verdict::Refused(number, base + at), events: e },
             EventStep::End => return EventsEnd { verdict: ended(rest, at, base), events: e },
             EventStep::Make(c) => {
-                made = mark_within(&t.kind, &t.first, &t.second, made, c);
+                let more = mark_within(&t.kind, &t.first, &t.second, made, c);
+                made = more;
                 e = with_event(e, 0, c);
             }
             EventStep::Learn(c) => {
-                let held = mark_within(&t.kind, &t.first, &t.second, [0; 128], c);
+                let none: [u8; 128] = [0; 128];
+                let held = mark_within(&t.kind, &t.first, &t.second, none, c);
                 if is_loose(&t.kind, held, made) { return EventsEnd { verdict: Verdict::Refused(6, base + at), events: e }; }
                 e = with_event(e, 1, c);
             }

@@ -13,3 +13,8 @@ pub mod Prefix
 pub mod Written
 pub mod Variables
 pub mod Sizes
+pub mod Composed
+pub mod Claims
+pub mod Starred
+pub mod Controls
+pub mod Theorems
