@@ -162,15 +162,15 @@ module _ (rest : List ℕ) (f : case.File) (n : ℕ) (k : Kind) (b : Before f n)
       cell-sound inn tight = on-kind ∙ sym (no _ not-late (no _ (many ∙ lt-leb 128 n room) (no _ (le-ltb (length rest) (2 + width k) whole) (no _ inn (no _ tight refl)))))
 
 -- A stored cell's parts are below n exactly if no number of its record is outside n cells.
-any-none : (n : ℕ) → anyOf (leb n) [] ≡ false
+pub any-none : (n : ℕ) → anyOf (leb n) [] ≡ false
 unfolding anyOf
 any-none n = refl
 
-any-in : (n x : ℕ) (xs : List ℕ) → x < n → anyOf (leb n) xs ≡ false → anyOf (leb n) (x ∷ xs) ≡ false
+pub any-in : (n x : ℕ) (xs : List ℕ) → x < n → anyOf (leb n) xs ≡ false → anyOf (leb n) (x ∷ xs) ≡ false
 unfolding anyOf
 any-in n x xs h e = sym (no _ (lt-leb n x h) (sym e))
 
-any-out : (n x : ℕ) (xs : List ℕ) → n ≤ x → anyOf (leb n) (x ∷ xs) ≡ true
+pub any-out : (n x : ℕ) (xs : List ℕ) → n ≤ x → anyOf (leb n) (x ∷ xs) ≡ true
 unfolding anyOf
 any-out n x xs h = sym (yes _ (le-leb n x h))
 
@@ -225,6 +225,31 @@ parts-in (ONE (App f) a) n e = one-in a n e
 parts-in (TWO Pair l r) n e = two-in l r n e
 parts-in (TWO Seal l r) n e = two-in l r n e
 
+-- Then each part of the cell is below n.
+first-in : (n x : ℕ) (xs : List ℕ) → anyOf (leb n) (x ∷ xs) ≡ false → x < n
+unfolding anyOf
+first-in n x xs e = go (leb n x) refl e
+  where
+    go : (t : Bool) → leb n x ≡ t → cond t true (anyOf (leb n) xs) ≡ false → x < n
+    go true i e = clash (cc)
+    go false i e = leb-false n x i
+
+next-in : (n x : ℕ) (xs : List ℕ) → anyOf (leb n) (x ∷ xs) ≡ false → anyOf (leb n) xs ≡ false
+unfolding anyOf
+next-in n x xs e = go (leb n x) e
+  where
+    go : (t : Bool) → cond t true (anyOf (leb n) xs) ≡ false → anyOf (leb n) xs ≡ false
+    go true e = clash (cc)
+    go false e = e
+
+numbers-in : (d : case.Cell) (n : ℕ) {x : ℕ} → anyOf (leb n) (numbers (Record.cell d)) ≡ false → case.Part d x → x < n
+numbers-in (ONE g a) n e case.in-arg = first-in n a [] e
+numbers-in (TWO h l r) n e case.in-left = first-in n l (r ∷ []) e
+numbers-in (TWO h l r) n e case.in-right = first-in n r [] (next-in n l (r ∷ []) e)
+
+parts-below : (d : case.Cell) (n : ℕ) {x : ℕ} → partsBelow (storedAs d) n ≡ true → case.Part d x → x < n
+parts-below d n e = numbers-in d n (parts-in d n e)
+
 pub parts-out : (d : case.Cell) (n : ℕ) → partsBelow (storedAs d) n ≡ false → anyOf (leb n) (numbers (Record.cell d)) ≡ true
 unfolding partsBelow
 parts-out (AT x) n e = clash (cc)
@@ -258,6 +283,7 @@ module _ (rest : List ℕ) (n : ℕ) (m : Mark) (g : CellKind rest m) (room : n 
     size = said .size;
     whole = whole;
     room = room;
+    below = λ x q. parts-below (said .d) n (subst (λ c. partsBelow c n ≡ true) stored-found below) q;
     sound = λ f b. cell-sound rest f n (g .tag) b (g .found) (g .is) (g .whole) room whole
         (outside-is f b false (parts-in (said .d) n (subst (λ c. partsBelow c n ≡ true) stored-found below))) (subst (λ r. loose f r ≡ false) (sym (said .says)) refl);
   }

@@ -3,3 +3,8 @@ pub mod RecordLaws
 pub mod CellLaws
 pub mod ReadLaws
 pub mod CellLoop
+pub mod WithinLaws
+pub mod EventLaws
+pub mod EventLoop
+pub mod VariableLaws
+pub mod CaseLaws

@@ -1,51 +1,48 @@
 -- One record read by the definition, and the rows of a list with one element more.
-use mathlib.Core.Path.{_≡_, refl, sym, _∙_, ap}
+use mathlib.Core.Path.{_≡_, refl, sym, _∙_, ap, ap₂}
 use mathlib.Core.List.{List, [], _∷_, _++_, map, append-assoc}
 use Prim.Native.Nat.{ℕ, suc, _+_, _-_, _≤_, _<_}
 use native.Mathlib.Omega.{arith}
-use native.Mathlib.Numerals.{add-one}
-use lib.ListN.{length, drop, set, replicate, length-map, length-append}
+use lib.ListN.{length, drop, set, replicate, length-map}
 use lib.Seq.{set-at, drop-drop}
 use Rattle.model.specs.Case.{File, Cell, Event}
 use Rattle.model.specs.Stored.{row}
+use Rattle.model.proofs.Fuel.{Few, read-step}
+use Rattle.model.proofs.Listed.{length-snoc}
 use Rattle.model.specs.Format.{Kind, width, recordAt, Record, check, Checked, Reading, after, behind, readFrom, ended}
 
--- A faulty record decides.
-pub read-fault : (big n x : ℕ) (rest : List ℕ) (at : ℕ) (f : File) → big ≡ n + 1 → check rest f ≡ Checked.fault x → readFrom big rest at f ≡ Reading.refused x at
-unfolding readFrom
-read-fault big n x rest at f z e = ap (λ m. readFrom m rest at f) (z ∙ add-one n) ∙ ap (after (readFrom n) rest at f) e
+-- Every file read so far that has room goes on in the same way: 257 records are enough from anywhere.
+module _ (file : List ℕ) (at : ℕ) (f : File) (few : Few f) where
+  abbrev rest : List ℕ
+  rest = drop at file
 
--- Behind a sound record the reading goes on.
-read-sound : (big n : ℕ) (rest : List ℕ) (at : ℕ) (f : File) (k : Kind) → big ≡ n + 1 → check rest f ≡ Checked.sound k →
-    readFrom big rest at f ≡ behind (readFrom n) rest at f (2 + width k) (recordAt rest k)
-unfolding readFrom
-read-sound big n rest at f k z e = ap (λ m. readFrom m rest at f) (z ∙ add-one n) ∙ ap (after (readFrom n) rest at f) e
+  -- A faulty record decides.
+  pub read-fault : (x : ℕ) → check rest f ≡ Checked.fault x → readFrom 257 rest at f ≡ Reading.refused x at
+  read-fault x e = read-step rest at f few ∙ ap (after (readFrom 257) rest at f) e
 
-module _ (file : List ℕ) (at big n : ℕ) (f : File) (k : Kind) (z : big ≡ n + 1) (e : check (drop at file) f ≡ Checked.sound k) where
-  behind-size : (size : ℕ) → 2 + width k ≡ size → readFrom big (drop at file) at f ≡ behind (readFrom n) (drop at file) at f size (recordAt (drop at file) k)
-  behind-size size s = read-sound big n (drop at file) at f k z e ∙ ap (λ w. behind (readFrom n) (drop at file) at f w (recordAt (drop at file) k)) s
+  -- Behind a sound record the reading goes on.
+  module _ (k : Kind) (e : check rest f ≡ Checked.sound k) where
+    go-on : (size : ℕ) (r : Record) → 2 + width k ≡ size → recordAt rest k ≡ r → readFrom 257 rest at f ≡ behind (readFrom 257) rest at f size r
+    go-on size r s i = read-step rest at f few ∙ (ap (after (readFrom 257) rest at f) e ∙ ap₂ (behind (readFrom 257) rest at f) s i)
 
-  moved : (size : ℕ) (g : File) → readFrom n (drop size (drop at file)) (at + size) g ≡ readFrom n (drop (at + size) file) (at + size) g
-  moved size g = ap (λ r. readFrom n r (at + size) g) (drop-drop size at file)
+    moved : (size : ℕ) (g : File) → readFrom 257 (drop size rest) (at + size) g ≡ readFrom 257 (drop (at + size) file) (at + size) g
+    moved size g = ap (λ r. readFrom 257 r (at + size) g) (drop-drop size at file)
 
-  pub read-cell : (size : ℕ) (d : Cell) → 2 + width k ≡ size → recordAt (drop at file) k ≡ Record.cell d →
-      readFrom big (drop at file) at f ≡ readFrom n (drop (at + size) file) (at + size) (record { cells = f .cells ++ (d ∷ []); events = f .events })
-  read-cell size d s r = behind-size size s ∙ (ap (behind (readFrom n) (drop at file) at f size) r ∙ moved size (record { cells = f .cells ++ (d ∷ []); events = f .events }))
+    pub read-cell : (size : ℕ) (d : Cell) → 2 + width k ≡ size → recordAt rest k ≡ Record.cell d →
+        readFrom 257 rest at f ≡ readFrom 257 (drop (at + size) file) (at + size) (record { cells = f .cells ++ (d ∷ []); events = f .events })
+    read-cell size d s r = go-on size (Record.cell d) s r ∙ moved size (record { cells = f .cells ++ (d ∷ []); events = f .events })
 
-  pub read-event : (size : ℕ) (v : Event) → 2 + width k ≡ size → recordAt (drop at file) k ≡ Record.event v →
-      readFrom big (drop at file) at f ≡ readFrom n (drop (at + size) file) (at + size) (record { cells = f .cells; events = f .events ++ (v ∷ []) })
-  read-event size v s r = behind-size size s ∙ (ap (behind (readFrom n) (drop at file) at f size) r ∙ moved size (record { cells = f .cells; events = f .events ++ (v ∷ []) }))
+    pub read-event : (size : ℕ) (v : Event) → 2 + width k ≡ size → recordAt rest k ≡ Record.event v →
+        readFrom 257 rest at f ≡ readFrom 257 (drop (at + size) file) (at + size) (record { cells = f .cells; events = f .events ++ (v ∷ []) })
+    read-event size v s r = go-on size (Record.event v) s r ∙ moved size (record { cells = f .cells; events = f .events ++ (v ∷ []) })
 
-  pub read-end : recordAt (drop at file) k ≡ Record.end → readFrom big (drop at file) at f ≡ ended (drop at file) at f
-  read-end r = read-sound big n (drop at file) at f k z e ∙ ap (behind (readFrom n) (drop at file) at f (2 + width k)) r
+    pub read-end : recordAt rest k ≡ Record.end → readFrom 257 rest at f ≡ ended rest at f
+    read-end r = go-on (2 + width k) Record.end refl r
 
 -- One element more in a row.
 map-more : {A : Type 0} (byte : A → ℕ) (xs : List A) (x : A) → map byte (xs ++ (x ∷ [])) ≡ map byte xs ++ (byte x ∷ [])
 map-more byte [] x = refl
 map-more byte (y ∷ xs) x = ap (_∷_ (byte y)) (map-more byte xs x)
-
-pub length-more : {A : Type 0} (xs : List A) (x : A) → length (xs ++ (x ∷ [])) ≡ length xs + 1
-length-more xs x = length-append xs (x ∷ [])
 
 pub row-more : {A : Type 0} (byte : A → ℕ) (xs : List A) (x : A) → length xs < 128 → set (row byte xs) (length xs) (byte x) ≡ row byte (xs ++ (x ∷ []))
 row-more byte xs x h =
@@ -53,7 +50,7 @@ row-more byte xs x h =
     ∙ (set-at (map byte xs) 0 (replicate (128 - (length xs + 1)) 0) (byte x) (length xs) (length-map xs byte)
     ∙ (sym (append-assoc (map byte xs) (byte x ∷ []) (replicate (128 - (length xs + 1)) 0))
     ∙ (ap (λ l. l ++ replicate (128 - (length xs + 1)) 0) (sym (map-more byte xs x))
-    ∙ ap (λ n. map byte (xs ++ (x ∷ [])) ++ replicate (128 - n) 0) (sym (length-more xs x)))))
+    ∙ ap (λ n. map byte (xs ++ (x ∷ [])) ++ replicate (128 - n) 0) (sym (length-snoc xs x)))))
   where
     left : 128 - length xs ≡ suc (128 - (length xs + 1))
     left = omega arith

@@ -3,7 +3,7 @@ use mathlib.Core.Path.{_≡_}
 use mathlib.Core.Bool.{Bool, true, false, cond}
 use mathlib.Core.List.{List, []}
 use mathlib.Core.Option.{some}
-use Prim.Native.Nat.{ℕ, _+_, _-_, _/_, _%_, _≤_, _<_}
+use Prim.Native.Nat.{ℕ, _+_, _/_, _%_, _≤_, _<_}
 use lib.Dec.{ltb, leb, eqb}
 use lib.ListN.{length, drop, set, replicate}
 use Rattle.model.specs.Case as case
@@ -93,6 +93,7 @@ pub record Next (rest : List ℕ) (n : ℕ) (c : Cell) : Type 0 where
   pub size : 2 + width tag ≡ sizeOf c
   pub whole : 2 + width tag ≤ length rest
   pub room : n < 128
+  pub below : (x : ℕ) → case.Part d x → x < n
   pub sound : (f : case.File) → Before f n → check rest f ≡ Checked.sound tag
 
 -- The record at the front is none of a cell: the events begin.
@@ -113,8 +114,10 @@ pub record Cut (file : List ℕ) (at : ℕ) (t : Table) : Type 0 where
   pub list : List case.Cell
   pub table : t ≡ stored list
   pub few : length list ≤ 128
+  pub lower : case.Lower (case.tableOf list)
+  pub place : at ≤ length file
   pub begun : Begun (drop at file)
-  pub rest : readFrom (257 - length list) (drop at file) at (record { cells = list; events = [] }) ≡ readFile file
+  pub rest : readFrom 257 (drop at file) at (record { cells = list; events = [] }) ≡ readFile file
 
 -- What the reader of the cell records gives back.
 abbrev pub cellsRead : List ℕ → Stop → ℕ → Table → Type 0

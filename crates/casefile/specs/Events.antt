@@ -1,11 +1,11 @@
 -- What the reader of the event records says, in terms of model/specs/Format.
 use mathlib.Core.Path.{_≡_}
 use mathlib.Core.Logic.{_⊎_}
-use mathlib.Core.Bool.{Bool, true, false, cond}
+use mathlib.Core.Bool.{Bool, true, false, cond, not}
 use mathlib.Core.List.{List, []}
 use mathlib.Core.Option.{some}
-use Prim.Native.Nat.{ℕ, _+_, _-_, _≤_, _<_}
-use lib.Dec.{ltb}
+use Prim.Native.Nat.{ℕ, _+_, _≤_, _<_}
+use lib.Dec.{ltb, eqb}
 use lib.ListN.{length, getD, drop, set, replicate}
 use Rattle.model.specs.Case as case
 use Rattle.model.specs.Case.{Part, Within, Lower, tableOf}
@@ -74,8 +74,8 @@ abbrev pub withEvent : Events → ℕ → ℕ → Events
 withEvent e k c = record { kind = set (e .kind) (e .count) k; cell = set (e .cell) (e .count) c; count = e .count + 1 }
 
 -- A file with so many cells and n events, whose next record is no cell's if it has no event.
-pub record Among (rest : List ℕ) (f : case.File) (cells n : ℕ) : Type 0 where
-  pub cells : length (f .cells) ≡ cells
+pub record Among (rest : List ℕ) (f : case.File) (count n : ℕ) : Type 0 where
+  pub cells : length (f .cells) ≡ count
   pub events : length (f .events) ≡ n
   pub begun : f .events ≡ [] → Begun rest
 
@@ -112,17 +112,21 @@ pub record PartsMarked (k : case.Cell) (marks r : List ℕ) : Type 0 where
   pub parts : (d : ℕ) → Part k d → On r d
   pub only : (v : ℕ) → On r v → On marks v ⊎ Part k v
 
--- The marks r are the marks and all that stands in the cell c, if the marks are closed under parts.
+-- The marks r are the marks and all that stands in the cell c; no more, if the marks hold the parts of what they hold.
 pub record WithinMarked (T : case.Table) (marks : List ℕ) (c : ℕ) (r : List ℕ) : Type 0 where
   pub size : length r ≡ 128
   pub kept : (v : ℕ) → On marks v → On r v
-  pub only : (v : ℕ) → On r v → On marks v ⊎ Within T v c
-  pub all : ((i d : ℕ) → On marks i → Part (T i) d → On marks d) → (v : ℕ) → Within T v c → On r v
+  pub only : ((x d : ℕ) → On marks x → Part (T x) d → On marks d) → (v : ℕ) → On r v → On marks v ⊎ Within T v c
+  pub all : (v : ℕ) → Within T v c → On r v
+
+-- Whether a cell is a variable that is marked as held, and not as made.
+unfoldable pub looseAt : ℕ → ℕ → ℕ → Bool
+looseAt kind held made = cond (eqb kind 1) (cond (eqb held 1) (not (eqb made 1)) false) false
 
 -- Whether some variable is marked as held, and not as made.
 abbrev pub looseSays : List ℕ → List ℕ → List ℕ → Bool → Type 0
 looseSays kinds held made true = (v : ℕ) × (getD kinds v 0 ≡ 1) × On held v × (On made v → ⊥)
-looseSays kinds held made false = (v : ℕ) → getD kinds v 0 ≡ 1 → On held v → On made v
+looseSays kinds held made false = (v : ℕ) → v < 128 → getD kinds v 0 ≡ 1 → On held v → On made v
 
 -- The reply at an EN at the front of the rest of a file, whose offset is `at`.
 abbrev pub endedAs : List ℕ → ℕ → Verdict
@@ -137,4 +141,4 @@ readAs verdict.Accepted e cells reading = (events : List case.Event) × (e ≡ s
 abbrev pub EventsRead : List ℕ → ℕ → Table → EventsEnd → Type 0
 EventsRead rest base t r =
     (file : List ℕ) (cells : List case.Cell) → rest ≡ drop base file → t ≡ stored cells → Begun rest →
-    readFrom (257 - length cells) (drop base file) base (record { cells = cells; events = [] }) ≡ readFile file → readAs (r .verdict) (r .events) cells (readFile file)
+    readFrom 257 (drop base file) base (record { cells = cells; events = [] }) ≡ readFile file → readAs (r .verdict) (r .events) cells (readFile file)

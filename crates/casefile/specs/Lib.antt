@@ -2,3 +2,4 @@
 pub mod Record
 pub mod Cells
 pub mod Events
+pub mod Case

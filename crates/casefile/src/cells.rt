@@ -9,22 +9,46 @@ ghost use Rattle.casefile.specs.Record.{markAt};
 ghost use Rattle.casefile.specs.Cells.{sectionOf, cellFor, partsBelow, sizeOf, emptyTable, withCell, cellSays, CellsRead, inCells};
 
 // A cell as it is stored: its kind, 0 to 4 for AT, VA, PR, SE, AP, and its two field bytes.
-pub struct Cell { pub kind: u8, pub first: u8, pub second: u8 }
+pub struct Cell {
+    pub kind: u8,
+    pub first: u8,
+    pub second: u8,
+}
 
 // The cells of a file in three rows, and their number. Past it stand zeros.
-pub struct Table { pub kind: [u8; 128], pub first: [u8; 128], pub second: [u8; 128], pub cells: usize }
+pub struct Table {
+    pub kind: [u8; 128],
+    pub first: [u8; 128],
+    pub second: [u8; 128],
+    pub cells: usize,
+}
 
 // The part of a file that a mark belongs to, or the refusal of what is no known mark.
-pub enum Section { Cells, Events, Fault(u8) }
+pub enum Section {
+    Cells,
+    Events,
+    Fault(u8),
+}
 
 // What is found where a cell record may stand: one more cell, the events' first record, or a fault.
-pub enum CellStep { Next(Cell), Events, Refused(u8) }
+pub enum CellStep {
+    Next(Cell),
+    Events,
+    Refused(u8),
+}
 
 // Why the cell records end: the events begin, or a record is at fault.
-pub enum Stop { Events, Refused(u8) }
+pub enum Stop {
+    Events,
+    Refused(u8),
+}
 
 // The cell records of a file, and the offset where they end.
-pub struct Cells { pub stop: Stop, pub at: usize, pub table: Table }
+pub struct Cells {
+    pub stop: Stop,
+    pub at: usize,
+    pub table: Table,
+}
 
 pub fn section_of(mark: Mark) -> Section
     ensures { λ r. ⌜ r ≡ sectionOf mark ⌝ }
@@ -48,14 +72,46 @@ pub fn cell_of(r: Record) -> Cell
     ensures { λ c. ⌜ c ≡ cellFor r ⌝ }
 {
     match r {
-        Record::Atom(n) => Cell { kind: 0, first: (n / 256) as u8, second: (n % 256) as u8 },
-        Record::Variable => Cell { kind: 1, first: 0, second: 0 },
-        Record::Pair(a, b) => Cell { kind: 2, first: a, second: b },
-        Record::Seal(a, b) => Cell { kind: 3, first: a, second: b },
-        Record::Apply(f, a) => Cell { kind: 4, first: f, second: a },
-        Record::Make(a) => Cell { kind: 0, first: 0, second: 0 },
-        Record::Learn(a) => Cell { kind: 0, first: 0, second: 0 },
-        Record::End => Cell { kind: 0, first: 0, second: 0 },
+        Record::Atom(n) => Cell {
+            kind: 0,
+            first: (n / 256) as u8,
+            second: (n % 256) as u8,
+        },
+        Record::Variable => Cell {
+            kind: 1,
+            first: 0,
+            second: 0,
+        },
+        Record::Pair(a, b) => Cell {
+            kind: 2,
+            first: a,
+            second: b,
+        },
+        Record::Seal(a, b) => Cell {
+            kind: 3,
+            first: a,
+            second: b,
+        },
+        Record::Apply(f, a) => Cell {
+            kind: 4,
+            first: f,
+            second: a,
+        },
+        Record::Make(a) => Cell {
+            kind: 0,
+            first: 0,
+            second: 0,
+        },
+        Record::Learn(a) => Cell {
+            kind: 0,
+            first: 0,
+            second: 0,
+        },
+        Record::End => Cell {
+            kind: 0,
+            first: 0,
+            second: 0,
+        },
     }
 }
 
@@ -63,9 +119,15 @@ pub fn cell_of(r: Record) -> Cell
 pub fn parts_below(c: Cell, n: usize) -> bool
     ensures { λ r. ⌜ r ≡ partsBelow c n ⌝ }
 {
-    if c.kind < 2 { return true; }
-    if n <= c.second as usize { return false; }
-    if c.kind == 4 { return true; }
+    if c.kind < 2 {
+        return true;
+    }
+    if n <= c.second as usize {
+        return false;
+    }
+    if c.kind == 4 {
+        return true;
+    }
     (c.first as usize) < n
 }
 
@@ -82,11 +144,19 @@ pub fn whole_cell(file: &[u8], at: usize, n: usize, mark: Mark) -> CellStep
     requires { ⌜ sectionOf mark ≡ inCells ⌝ }
     ensures { λ r. ⌜ cellSays (drop at (now (file .entry))) n r ⌝ }
 {
-    if 128 <= n { return CellStep::Refused(4); }
+    if 128 <= n {
+        return CellStep::Refused(4);
+    }
     let fields = super::record::fields_at(file, at, mark);
-    let Fields::Whole(r) = fields else { return CellStep::Refused(1); };
+    let Fields::Whole(r) = fields else {
+        return CellStep::Refused(1);
+    };
     let c = cell_of(r);
-    if parts_below(c, n) { CellStep::Next(c) } else { CellStep::Refused(5) }
+    if parts_below(c, n) {
+        CellStep::Next(c)
+    } else {
+        CellStep::Refused(5)
+    }
 }
 
 // What stands at `at`, after n cells.
@@ -105,7 +175,12 @@ pub fn cell_step(file: &[u8], at: usize, n: usize) -> CellStep
 pub fn empty_table() -> Table
     ensures { λ r. ⌜ r ≡ emptyTable ⌝ }
 {
-    Table { kind: [0; 128], first: [0; 128], second: [0; 128], cells: 0 }
+    Table {
+        kind: [0; 128],
+        first: [0; 128],
+        second: [0; 128],
+        cells: 0,
+    }
 }
 
 // The table with one cell more.
@@ -132,8 +207,16 @@ pub fn read_cells(file: &[u8]) -> Cells
         let n = t.cells;
         let step = cell_step(file, at, n);
         match step {
-            CellStep::Events => return Cells { stop: Stop::Events, at: at, table: t },
-            CellStep::Refused(number) => return Cells { stop: Stop::Refused(number), at: at, table: t },
+            CellStep::Events => return Cells {
+                stop: Stop::Events,
+                at: at,
+                table: t,
+            },
+            CellStep::Refused(number) => return Cells {
+                stop: Stop::Refused(number),
+                at: at,
+                table: t,
+            },
             CellStep::Next(c) => {
                 t = with_cell(t, c);
                 at = at + size_of(c);

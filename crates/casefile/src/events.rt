@@ -11,19 +11,34 @@ ghost use Rattle.model.specs.Stored.{tableAt, cellAt};
 ghost use Rattle.model.specs.Case.{Lower};
 ghost use Rattle.casefile.specs.Record.{markAt};
 ghost use Rattle.casefile.specs.Cells.{sectionOf};
-ghost use Rattle.casefile.specs.Events.{inEvents, endMark, eventFor, belowCells, emptyEvents, withEvent, eventSays, PartsMarked, WithinMarked, looseSays, endedAs, EventsRead, PartsFit};
+ghost use Rattle.casefile.specs.Events.{inEvents, endMark, eventFor, belowCells, emptyEvents, withEvent, eventSays, PartsMarked, WithinMarked, looseAt, looseSays, endedAs, EventsRead, PartsFit};
 
 // The events of a file in two rows, and their number: kind 0 for MK, 1 for LN, and the cell. Past it stand zeros.
-pub struct Events { pub kind: [u8; 128], pub cell: [u8; 128], pub count: usize }
+pub struct Events {
+    pub kind: [u8; 128],
+    pub cell: [u8; 128],
+    pub count: usize,
+}
 
 // What is found where an event record may stand.
-pub enum EventStep { Make(u8), Learn(u8), End, Refused(u8) }
+pub enum EventStep {
+    Make(u8),
+    Learn(u8),
+    End,
+    Refused(u8),
+}
 
 // The reply to a file: accepted, or refused with a number and a place.
-pub enum Verdict { Accepted, Refused(u8, usize) }
+pub enum Verdict {
+    Accepted,
+    Refused(u8, usize),
+}
 
 // The events of a file with the reply to it.
-pub struct EventsEnd { pub verdict: Verdict, pub events: Events }
+pub struct EventsEnd {
+    pub verdict: Verdict,
+    pub events: Events,
+}
 
 pub fn is_end(mark: Mark) -> bool
     ensures { λ r. ⌜ r ≡ endMark mark ⌝ }
@@ -63,8 +78,16 @@ pub fn below_cells(step: EventStep, cells: usize) -> EventStep
     ensures { λ r. ⌜ r ≡ belowCells step cells ⌝ }
 {
     match step {
-        EventStep::Make(c) => if (c as usize) < cells { EventStep::Make(c) } else { EventStep::Refused(5) },
-        EventStep::Learn(c) => if (c as usize) < cells { EventStep::Learn(c) } else { EventStep::Refused(5) },
+        EventStep::Make(c) => if (c as usize) < cells {
+            EventStep::Make(c)
+        } else {
+            EventStep::Refused(5)
+        },
+        EventStep::Learn(c) => if (c as usize) < cells {
+            EventStep::Learn(c)
+        } else {
+            EventStep::Refused(5)
+        },
         EventStep::End => EventStep::End,
         EventStep::Refused(number) => EventStep::Refused(number),
     }
@@ -76,10 +99,16 @@ pub fn whole_event(rest: &[u8], at: usize, cells: usize, n: usize, mark: Mark) -
     requires { ⌜ sectionOf mark ≡ inEvents ⌝ }
     ensures { λ r. ⌜ eventSays (drop at (now (rest .entry))) cells n r ⌝ }
 {
-    if is_end(mark) { return EventStep::End; }
-    if 128 <= n { return EventStep::Refused(4); }
+    if is_end(mark) {
+        return EventStep::End;
+    }
+    if 128 <= n {
+        return EventStep::Refused(4);
+    }
     let fields = super::record::fields_at(rest, at, mark);
-    let Fields::Whole(r) = fields else { return EventStep::Refused(1); };
+    let Fields::Whole(r) = fields else {
+        return EventStep::Refused(1);
+    };
     below_cells(event_of(r), cells)
 }
 
@@ -101,16 +130,26 @@ pub fn mark_parts(kind: u8, first: u8, second: u8, marks: [u8; 128]) -> [u8; 128
     requires { ⌜ PartsFit kind first second ⌝ }
     ensures { λ r. ⌜ PartsMarked (cellAt kind first second) marks r ⌝ }
 {
-    if kind < 2 { return marks; }
+    if kind < 2 {
+        return marks;
+    }
     let mut m = marks;
     m[second as usize] = 1;
-    if 4 <= kind { return m; }
+    if 4 <= kind {
+        return m;
+    }
     m[first as usize] = 1;
     m
 }
 
 // The marks with all cells that stand in the cell c marked too: from c downwards, as parts are lower.
-pub fn mark_within<'a>(kind: &'a [u8; 128], first: &'a [u8; 128], second: &'a [u8; 128], marks: [u8; 128], c: u8) -> [u8; 128]
+pub fn mark_within<'a>(
+    kind: &'a [u8; 128],
+    first: &'a [u8; 128],
+    second: &'a [u8; 128],
+    marks: [u8; 128],
+    c: u8,
+) -> [u8; 128]
     requires { ⌜ Lower (tableAt (now kind) (now first) (now second)) ⌝ }
     requires { ⌜ c < 128 ⌝ }
     ensures { λ r. ⌜ WithinMarked (tableAt (now (kind .entry)) (now (first .entry)) (now (second .entry))) marks c r ⌝ }
@@ -121,9 +160,24 @@ pub fn mark_within<'a>(kind: &'a [u8; 128], first: &'a [u8; 128], second: &'a [u
     i += 1;
     while 0 < i {
         i -= 1;
-        if m[i] == 1 { m = mark_parts(kind[i], first[i], second[i], m); }
+        if m[i] == 1 {
+            m = mark_parts(kind[i], first[i], second[i], m);
+        }
     }
     m
+}
+
+// Whether a cell is a variable that is marked as held, and not as made.
+pub fn loose_at(kind: u8, held: u8, made: u8) -> bool
+    ensures { λ r. ⌜ r ≡ looseAt kind held made ⌝ }
+{
+    if kind != 1 {
+        return false;
+    }
+    if held != 1 {
+        return false;
+    }
+    made != 1
 }
 
 // Whether some variable is marked as held, and not as made.
@@ -132,10 +186,8 @@ pub fn is_loose(kind: &[u8; 128], held: [u8; 128], made: [u8; 128]) -> bool
 {
     let mut v: usize = 0;
     while v < 128 {
-        if kind[v] == 1 {
-            if held[v] == 1 {
-                if made[v] != 1 { return true; }
-            }
+        if loose_at(kind[v], held[v], made[v]) {
+            return true;
         }
         v += 1;
     }
@@ -145,7 +197,11 @@ pub fn is_loose(kind: &[u8; 128], held: [u8; 128], made: [u8; 128]) -> bool
 pub fn no_events() -> Events
     ensures { λ r. ⌜ r ≡ emptyEvents ⌝ }
 {
-    Events { kind: [0; 128], cell: [0; 128], count: 0 }
+    Events {
+        kind: [0; 128],
+        cell: [0; 128],
+        count: 0,
+    }
 }
 
 // The events with one more.
@@ -167,7 +223,11 @@ pub fn ended(rest: &[u8], at: usize, base: usize) -> Verdict
     requires { ⌜ base + length (now rest) < 2 ^ 64 ⌝ }
     ensures { λ r. ⌜ r ≡ endedAs (drop at (now (rest .entry))) (base + at) ⌝ }
 {
-    if 2 < rest.len() - at { Verdict::Refused(7, base + at + 2) } else { Verdict::Accepted }
+    if 2 < rest.len() - at {
+        Verdict::Refused(7, base + at + 2)
+    } else {
+        Verdict::Accepted
+    }
 }
 
 // The event records from the front of the rest of a file, which begins at the offset `base`.
@@ -184,20 +244,32 @@ pub fn read_events(rest: &[u8], base: usize, t: Table) -> EventsEnd
         let n = e.count;
         let step = event_step(rest, at, t.cells, n);
         match step {
-            EventStep::Refused(number) => return EventsEnd { verdict: Verdict::Refused(number, base + at), events: e },
-            EventStep::End => return EventsEnd { verdict: ended(rest, at, base), events: e },
+            EventStep::Refused(number) => return EventsEnd {
+                verdict: Verdict::Refused(number, base + at),
+                events: e,
+            },
+            EventStep::End => return EventsEnd {
+                verdict: ended(rest, at, base),
+                events: e,
+            },
             EventStep::Make(c) => {
                 let more = mark_within(&t.kind, &t.first, &t.second, made, c);
                 made = more;
                 e = with_event(e, 0, c);
+                at += 3;
             }
             EventStep::Learn(c) => {
                 let none: [u8; 128] = [0; 128];
                 let held = mark_within(&t.kind, &t.first, &t.second, none, c);
-                if is_loose(&t.kind, held, made) { return EventsEnd { verdict: Verdict::Refused(6, base + at), events: e }; }
+                if is_loose(&t.kind, held, made) {
+                    return EventsEnd {
+                        verdict: Verdict::Refused(6, base + at),
+                        events: e,
+                    };
+                }
                 e = with_event(e, 1, c);
+                at += 3;
             }
         }
-        at += 3;
     }
 }

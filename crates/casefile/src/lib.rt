@@ -1,4 +1,80 @@
 // The reader of case files: from any bytes to a table and events by value, or to a refusal with its number and place.
-pub mod record;
 pub mod cells;
 pub mod events;
+pub mod record;
+
+use cells::Stop;
+use cells::Table;
+use events::Events;
+use events::Verdict;
+ghost use mathlib.Core.Path.{_≡_};
+ghost use Prim.Native.Nat.{_≤_};
+ghost use Rattle.model.specs.Format.{readFile, Reading};
+ghost use Rattle.casefile.specs.Case.{caseOf, refusal, VariableFound};
+
+// The offset of the first VA record.
+pub enum Found {
+    At(usize),
+    Nowhere,
+}
+
+// What is read of a file: the reply to it and, where it is accepted, its cells and events and the offset of the first VA. A refusal comes with no cell and no event.
+pub struct Case {
+    pub verdict: Verdict,
+    pub table: Table,
+    pub events: Events,
+    pub variable: Found,
+}
+
+// The offset of the first variable of a table of n cells: the records of the cells before it have four bytes each.
+pub fn first_variable(kind: &[u8; 128], n: usize) -> Found
+    requires { ⌜ n ≤ 128 ⌝ }
+    ensures { λ r. ⌜ VariableFound (now (kind .entry)) n r ⌝ }
+{
+    let mut i: usize = 0;
+    while i < n {
+        if kind[i] == 1 {
+            return Found::At(4 * i);
+        }
+        i += 1;
+    }
+    Found::Nowhere
+}
+
+pub fn refused(number: u8, place: usize) -> Case
+    ensures { λ r. ⌜ r ≡ refusal number place ⌝ }
+{
+    Case {
+        verdict: Verdict::Refused(number, place),
+        table: cells::empty_table(),
+        events: events::no_events(),
+        variable: Found::Nowhere,
+    }
+}
+
+// Reads a case file: any bytes are accepted or refused as document 01 says.
+pub fn read_case(file: &[u8]) -> Case
+    ensures { λ r. ⌜ r ≡ caseOf (readFile (now (file .entry))) ⌝ }
+{
+    let read = cells::read_cells(file);
+    let at = read.at;
+    let t = read.table;
+    let stop = read.stop;
+    match stop {
+        Stop::Refused(number) => refused(number, at),
+        Stop::Events => {
+            let end = events::read_events(&file[at..], at, t);
+            let verdict = end.verdict;
+            let events = end.events;
+            match verdict {
+                Verdict::Refused(number, place) => refused(number, place),
+                Verdict::Accepted => Case {
+                    verdict: Verdict::Accepted,
+                    table: t,
+                    events: events,
+                    variable: first_variable(&t.kind, t.cells),
+                },
+            }
+        }
+    }
+}

@@ -6,20 +6,47 @@ ghost use Rattle.model.specs.Format.{begins};
 ghost use Rattle.casefile.specs.Record.{markAt, widthOf, word, recordFor, fieldsAt};
 
 // What stands where a mark is due: a known mark, an unknown one, or fewer bytes than a mark has.
-pub enum Mark { Atom, Variable, Pair, Seal, Apply, Make, Learn, End, Unknown, Cut }
+pub enum Mark {
+    Atom,
+    Variable,
+    Pair,
+    Seal,
+    Apply,
+    Make,
+    Learn,
+    End,
+    Unknown,
+    Cut,
+}
 
 // A record read is exactly one of eight kinds, each with its own fields.
-pub enum Record { Atom(u16), Variable, Pair(u8, u8), Seal(u8, u8), Apply(u8, u8), Make(u8), Learn(u8), End }
+pub enum Record {
+    Atom(u16),
+    Variable,
+    Pair(u8, u8),
+    Seal(u8, u8),
+    Apply(u8, u8),
+    Make(u8),
+    Learn(u8),
+    End,
+}
 
 // The fields behind a mark: all there, or cut.
-pub enum Fields { Whole(Record), Cut }
+pub enum Fields {
+    Whole(Record),
+    Cut,
+}
 
 // The two bytes at `at` are those of `mark`.
 pub fn begins_with(file: &[u8], at: usize, mark: &[u8; 2]) -> bool
     requires { ⌜ at + 2 ≤ length (now file) ⌝ }
     ensures { λ r. ⌜ r ≡ begins (drop at (now (file .entry))) (now (mark .entry)) ⌝ }
 {
-    if file[at] == mark[0] { file[at + 1] == mark[1] } else { false }
+    if file[at] == mark[0] {
+        file[at + 1] == mark[1]
+    } else {
+        false
+    }
 }
 
 // The mark of which both bytes stand at `at`.
@@ -27,14 +54,30 @@ pub fn whole_mark(file: &[u8], at: usize) -> Mark
     requires { ⌜ at + 2 ≤ length (now file) ⌝ }
     ensures { λ r. ⌜ r ≡ markAt (drop at (now (file .entry))) ⌝ }
 {
-    if begins_with(file, at, b"AT") { return Mark::Atom; }
-    if begins_with(file, at, b"VA") { return Mark::Variable; }
-    if begins_with(file, at, b"PR") { return Mark::Pair; }
-    if begins_with(file, at, b"SE") { return Mark::Seal; }
-    if begins_with(file, at, b"AP") { return Mark::Apply; }
-    if begins_with(file, at, b"MK") { return Mark::Make; }
-    if begins_with(file, at, b"LN") { return Mark::Learn; }
-    if begins_with(file, at, b"EN") { return Mark::End; }
+    if begins_with(file, at, b"AT") {
+        return Mark::Atom;
+    }
+    if begins_with(file, at, b"VA") {
+        return Mark::Variable;
+    }
+    if begins_with(file, at, b"PR") {
+        return Mark::Pair;
+    }
+    if begins_with(file, at, b"SE") {
+        return Mark::Seal;
+    }
+    if begins_with(file, at, b"AP") {
+        return Mark::Apply;
+    }
+    if begins_with(file, at, b"MK") {
+        return Mark::Make;
+    }
+    if begins_with(file, at, b"LN") {
+        return Mark::Learn;
+    }
+    if begins_with(file, at, b"EN") {
+        return Mark::End;
+    }
     Mark::Unknown
 }
 
@@ -42,8 +85,12 @@ pub fn whole_mark(file: &[u8], at: usize) -> Mark
 pub fn mark_at(file: &[u8], at: usize) -> Mark
     ensures { λ r. ⌜ r ≡ markAt (drop at (now (file .entry))) ⌝ }
 {
-    if file.len() < 2 { return Mark::Cut; }
-    if file.len() - 2 < at { return Mark::Cut; }
+    if file.len() < 2 {
+        return Mark::Cut;
+    }
+    if file.len() - 2 < at {
+        return Mark::Cut;
+    }
     whole_mark(file, at)
 }
 
@@ -103,7 +150,9 @@ pub fn fields_at(file: &[u8], at: usize, mark: Mark) -> Fields
     ensures { λ r. ⌜ r ≡ fieldsAt (drop at (now (file .entry))) mark ⌝ }
 {
     let from = at + 2;
-    if file.len() - from < width_of(mark) { return Fields::Cut; }
+    if file.len() - from < width_of(mark) {
+        return Fields::Cut;
+    }
     let second = byte(file, from + 1);
     Fields::Whole(record_of(mark, byte(file, from), second))
 }

@@ -1,3 +1,6 @@
+use mathlib.Core.Path.{refl, sym}
+use borrow.Author.Tests.{lt-ltb, le-ltb}
+use Rattle.model.proofs.Pick.{yes, no}
 use borrow.Author.Needs.{needs}
 use Rattle.casefile.proofs.events.below_cells.Statement.{statement}
 use Rattle.casefile.proofs.events.below_cells.Tie as tie
@@ -30,19 +33,19 @@ enum-known-step-3 c = search needs
 
 -- src/events.rt:62:1
 returns : tie.Need-returns
-returns c = ?
+returns c = rw (c .before .before .step .given .1) (yes _ (lt-ltb _ _ (c .if1 .taken)))
 
 -- src/events.rt:62:1
 returns-2 : tie.Need-returns-2
-returns-2 c = ?
+returns-2 c = rw (c .before .before .step .given .1) (no _ (le-ltb _ _ (c .if1 .left)) refl)
 
 -- src/events.rt:62:1
 returns-3 : tie.Need-returns-3
-returns-3 c = ?
+returns-3 c = rw (c .before .before .step2 .given .1) (yes _ (lt-ltb _ _ (c .if2 .taken)))
 
 -- src/events.rt:62:1
 returns-4 : tie.Need-returns-4
-returns-4 c = ?
+returns-4 c = rw (c .before .before .step2 .given .1) (no _ (le-ltb _ _ (c .if2 .left)) refl)
 
 -- src/events.rt:62:1
 returns-5 : tie.Need-returns-5
@@ -50,7 +53,7 @@ returns-5 c = search needs
 
 -- src/events.rt:62:1
 returns-6 : tie.Need-returns-6
-returns-6 c = ?
+returns-6 c = rw (c .before .step3 .given .1)
 
 pub below-cells-spec : {M : Type 1} → statement M
 below-cells-spec =

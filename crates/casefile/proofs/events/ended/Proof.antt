@@ -1,3 +1,9 @@
+use mathlib.Core.Path.{refl}
+use native.Mathlib.Omega.{arith}
+use denote.Ref.{now}
+use lib.ListN.{length, drop, length-drop}
+use borrow.Author.Tests.{lt-ltb, le-ltb}
+use Rattle.model.proofs.Pick.{yes, no}
 use borrow.Author.Needs.{needs}
 use Rattle.casefile.proofs.events.ended.Statement.{statement}
 use Rattle.casefile.proofs.events.ended.Tie as tie
@@ -18,11 +24,15 @@ add-t9 c = search needs
 
 -- src/events.rt:165:1
 returns : tie.Need-returns
-returns c = ?
+returns c =
+    let a = c .before .args in
+    yes _ (lt-ltb 2 (length (drop (a .at) (now (a .rest)))) (omega (arith, length-drop (a .at) (now (a .rest)))))
 
 -- src/events.rt:165:1
 returns-2 : tie.Need-returns-2
-returns-2 c = ?
+returns-2 c =
+    let a = c .before .args in
+    no _ (le-ltb 2 (length (drop (a .at) (now (a .rest)))) (omega (arith, length-drop (a .at) (now (a .rest))))) refl
 
 pub ended-spec : {M : Type 1} → statement M
 ended-spec = tie.close (tie.spec sub-if1 add-t8 add-t9 returns returns-2)

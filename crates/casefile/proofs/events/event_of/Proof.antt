@@ -58,11 +58,11 @@ returns-5 c = search needs
 
 -- src/events.rt:46:1
 returns-6 : tie.Need-returns-6
-returns-6 c = ?
+returns-6 c = rw (c .before .r5 .given .1)
 
 -- src/events.rt:46:1
 returns-7 : tie.Need-returns-7
-returns-7 c = ?
+returns-7 c = rw (c .before .r6 .given .1)
 
 -- src/events.rt:46:1
 returns-8 : tie.Need-returns-8

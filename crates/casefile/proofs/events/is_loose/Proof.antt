@@ -1,49 +1,74 @@
+use borrow.Author.Needs.{needs}
+use native.Mathlib.Omega.{arith}
+use native.Mathlib.Decide.{ℕ-discrete}
+use mathlib.Core.Path.{_≡_, sym, _∙_, subst}
+use Prim.Native.Nat.{ℕ, _≤_, _<_, _-_}
+use denote.Ref.{now}
+use lib.ListN.{getD}
+use Rattle.theory.specs.Cells.{On}
+use Rattle.casefile.proofs.WithinLaws.{loose-at-true, loose-at-false}
 use Rattle.casefile.proofs.events.is_loose.Statement.{statement}
 use Rattle.casefile.proofs.events.is_loose.Tie as tie
 use Rattle.casefile.proofs.events.is_loose.Reads as reads
 use Rattle.casefile.proofs.events.is_loose.Lts as lts
+use Rattle.casefile.proofs.events.loose_at.Reads as loose-at-reads
 
 abbrev Inv-loop : tie.InvT-loop
-Inv-loop kind held made v₀ v = ?
+Inv-loop kind held made v₀ v = (v ≤ 128) × ((u : ℕ) → u < v → getD kind u 0 ≡ 1 → On held u → On made u)
 
 abbrev μ-loop : tie.MeasureT-loop
-μ-loop kind held made v₀ v = ?
+μ-loop kind held made v₀ v = 128 - v
 
--- src/events.rt:134:5
+-- src/events.rt:143:5
 loop-holds : tie.Need-loop-holds Inv-loop μ-loop
-loop-holds c = ?
+loop-holds c = (search needs, λ u h. absurd (omega arith))
 
--- src/events.rt:135:12
-element-copy-out-if1 : tie.Need-element-copy-out-if1 Inv-loop μ-loop
-element-copy-out-if1 c = ?
+-- src/events.rt:144:21
+element-copy-out-loose-at : tie.Need-element-copy-out-loose-at Inv-loop μ-loop
+element-copy-out-loose-at c = omega arith
 
--- src/events.rt:136:16
-array-read-if2 : tie.Need-array-read-if2 Inv-loop μ-loop
-array-read-if2 c = ?
+-- src/events.rt:144:30
+array-read-loose-at : tie.Need-array-read-loose-at Inv-loop μ-loop
+array-read-loose-at c = omega arith
 
--- src/events.rt:137:20
-array-read-if3 : tie.Need-array-read-if3 Inv-loop μ-loop
-array-read-if3 c = ?
+-- src/events.rt:144:39
+array-read-loose-at-2 : tie.Need-array-read-loose-at-2 Inv-loop μ-loop
+array-read-loose-at-2 c = omega arith
 
--- src/events.rt:137:35
+-- src/events.rt:144:12
+loose-at-requires : tie.Need-loose-at-requires Inv-loop μ-loop
+loose-at-requires c κs = search needs
+
+-- src/events.rt:144:50
 returns : tie.Need-returns Inv-loop μ-loop
-returns c = ?
+returns c =
+    let l = c .before .before .before .before in
+    let (k, h, m) = loose-at-true _ _ _ (sym (c .before .loose-at .ensures) ∙ c .if1 .taken) in
+    (l .loop .v, k, h, m)
 
--- src/events.rt:140:9
+-- src/events.rt:145:9
 add-v : tie.Need-add-v Inv-loop μ-loop
-add-v c = ?
+add-v c = omega arith
 
--- src/events.rt:134:5
+-- src/events.rt:143:5
 loop-less : tie.Need-loop-less Inv-loop μ-loop
-loop-less c = ?
+loop-less c = omega arith
 
--- src/events.rt:134:5
+-- src/events.rt:143:5
 loop-again : tie.Need-loop-again Inv-loop μ-loop
-loop-again c = ?
+loop-again c =
+    let l = c .before .before .before .before in
+    let a = l .before .args in (
+      omega arith,
+      λ u h. elim (ℕ-discrete u (l .loop .v)) [
+        | yes e ↦ subst (λ u. getD (now (a .kind)) u 0 ≡ 1 → On (a .t2) u → On (a .t3) u) (sym e) (loose-at-false _ _ _ (sym (c .before .loose-at .ensures) ∙ c .if1 .left))
+        | no ne ↦ l .loop .inv .1 u (omega arith)
+      ],
+    )
 
--- src/events.rt:130:1
+-- src/events.rt:139:1
 returns-2 : tie.Need-returns-2 Inv-loop μ-loop
-returns-2 c = ?
+returns-2 c = let l = c .before in λ u lt k h. l .loop .inv .1 u (omega arith) k h
 
 pub is-loose-spec : {M : Type 1} → statement M
 is-loose-spec =
@@ -52,9 +77,10 @@ is-loose-spec =
     Inv-loop
     μ-loop
     loop-holds
-    element-copy-out-if1
-    array-read-if2
-    array-read-if3
+    element-copy-out-loose-at
+    array-read-loose-at
+    array-read-loose-at-2
+    loose-at-requires
     returns
     add-v
     loop-less
