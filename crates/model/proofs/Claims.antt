@@ -1,15 +1,14 @@
 -- The starred files of document 01 by their bytes, and what is said of each, as one list. The statement is `All Holds starred`.
 -- Reply, Claim: what is said of a file; Holds: what that means by the definitions; bytesOf: the files; starred: the list.
 use mathlib.Core.Path.{_≡_}
-use mathlib.Core.List.{List, [], _∷_, _++_, map}
-use mathlib.Core.Option.{none}
-use Prim.Native.Nat.{ℕ, _<_}
-use lib.ListN.{length, getD}
-use Rattle.model.specs.Message.{Message, atom, Built}
-use Rattle.model.specs.Case.{VA, LN, File, tableOf, runOf, message, Heard}
-use Rattle.model.specs.Values.{RightValues, cellOf, Form, RightList, Equates}
-use Rattle.model.specs.Reduce.{Reduces}
-use Rattle.model.specs.Format.{Kind, mark, readFile, Reading, refused, accepted, firstVariable, fileBytes}
+use mathlib.Core.List.{List, [], _∷_, _++_}
+use Prim.Native.Nat.{ℕ}
+use lib.ListN.{getD}
+use Rattle.model.specs.Message.{Message}
+use Rattle.model.specs.Case.{File, tableOf, runOf, message}
+use Rattle.model.specs.Values.{RightValues}
+use Rattle.model.specs.Format.{Kind, mark, readFile, Reading, refused, accepted}
+use Rattle.model.specs.Replies.{RightListed, NoneRight, EquatedBy, NeverEqual, MarkList, ReducedTo}
 
 -- ---- what is said
 
@@ -39,14 +38,6 @@ infix 68 _gives_
 pub data Claim : Type 0 where
   _gives_ : List ℕ → Reply → Claim
 
--- The list has the form of a value list, and is right.
-abbrev pub RightListed : File → List ℕ → Type 0
-RightListed f list = Form (tableOf (f .cells)) (length (f .cells)) list × RightList (tableOf (f .cells)) (runOf (f .events)) (λ v. cellOf (getD list v 0))
-
--- No values are right.
-abbrev pub NoneRight : File → Type 0
-NoneRight f = (ρ : ℕ → Message) → RightValues (tableOf (f .cells)) (runOf (f .events)) ρ → ⊥
-
 -- Under right values the cells v and c show one message.
 abbrev pub AlwaysSame : File → ℕ → ℕ → Type 0
 AlwaysSame f v c = (ρ : ℕ → Message) → RightValues (tableOf (f .cells)) (runOf (f .events)) ρ → message (tableOf (f .cells)) ρ v ≡ message (tableOf (f .cells)) ρ c
@@ -54,40 +45,6 @@ AlwaysSame f v c = (ρ : ℕ → Message) → RightValues (tableOf (f .cells)) (
 -- In each right value list the entry of v is x.
 abbrev pub AlwaysListed : File → ℕ → ℕ → Type 0
 AlwaysListed f v x = (list : List ℕ) → RightListed f list → getD list v 0 ≡ x
-
--- The list, one entry for each cell and its own number for each that is no variable, equates the cells a and b.
-abbrev pub EquatedBy : File → ℕ → ℕ → List ℕ → Type 0
-EquatedBy f a b list =
-    (length list ≡ length (f .cells)) × ((c : ℕ) → (tableOf (f .cells) c ≡ VA → ⊥) → getD list c c ≡ c) × Equates (tableOf (f .cells)) a b (λ v. getD list v v)
-
--- No values make the cells a and b equal.
-abbrev pub NeverEqual : File → ℕ → ℕ → Type 0
-NeverEqual f a b = (ρ : ℕ → Message) → message (tableOf (f .cells)) ρ a ≡ message (tableOf (f .cells)) ρ b → ⊥
-
--- What the cells of a file without variables show.
-abbrev pub messagesOf : File → ℕ → Message
-messagesOf f = message (tableOf (f .cells)) (λ c. atom 0)
-
--- What a file without variables lets the intruder learn.
-abbrev pub HeardOf : File → Message → Type 0
-HeardOf f = Heard (runOf (f .events)) (messagesOf f)
-
--- A mark is 1 for what holds, and 0 for what does not.
-pub data Marked (P : Type 0) : ℕ → Type 0 where
-  set : P → Marked P 1
-  unset : (P → ⊥) → Marked P 0
-
--- No variables; the list has for each cell the mark of what can be built from all LN messages.
-abbrev pub MarkList : File → List ℕ → Type 0
-MarkList f list =
-    (firstVariable (f .cells) ≡ none) × (length list ≡ length (f .cells))
-    × ((c : ℕ) → c < length (f .cells) → Marked (Built (HeardOf f) (messagesOf f c)) (getD list c 0))
-
--- No variables; the bytes are those of the reduced file.
-abbrev pub ReducedTo : File → List ℕ → Type 0
-ReducedTo f bytes =
-    (firstVariable (f .cells) ≡ none) × (g : File) × (learnt : List ℕ) × (fileBytes g ≡ bytes) × (g .events ≡ map LN learnt)
-    × Reduces (HeardOf f) (tableOf (g .cells)) (messagesOf g) (length (g .cells)) learnt
 
 -- The file was accepted as one of which P holds.
 abbrev pub OfAccepted : Reading → (File → Type 0) → Type 0

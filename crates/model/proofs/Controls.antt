@@ -13,7 +13,8 @@ use Rattle.model.specs.Reduce.{Bare, Rest, Inside, whole, deeper}
 use Rattle.model.specs.Format.{Kind, mark, readFile, readFrom, check, checkKind, kindOf, anyOf, variables, Reading, accepted, refused}
 use Rattle.model.proofs.Steps.{built-more, size, held-size}
 use Rattle.model.proofs.Read.{clash, part-held, right-values}
-use Rattle.model.proofs.Claims.{RightListed, NoneRight, EquatedBy, NeverEqual, _gives_, runYes, runNo, equateYes, equateNo, Holds, C, D, R, bytesOf}
+use Rattle.model.specs.Replies.{RightListed, NoneRight, EquatedBy, NeverEqual}
+use Rattle.model.proofs.Claims.{_gives_, runYes, runNo, equateYes, equateNo, Holds, C, D, R, bytesOf}
 use Rattle.model.proofs.Starred.{read-as, its}
 use Rattle.model.proofs.Composed.{Shut, name, applied, sealed, shut-built, comp-atom, comp-seal, Among, known-among}
 

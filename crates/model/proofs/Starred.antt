@@ -16,7 +16,8 @@ use Rattle.model.specs.Format.{readFile, readFrom, check, checkKind, kin
 use Rattle.model.proofs.Steps.{Comp, built-more, made-atom, held-atom}
 use Rattle.model.proofs.Read.{clash}
 use Rattle.model.proofs.Composed.{Shut, name, sealed, shut-built, comp-atom, comp-pair, comp-seal, Among, known-among, heard-among, rest-listed, listed-rest}
-use Rattle.model.proofs.Claims.{RightListed, NoneRight, AlwaysSame, AlwaysListed, EquatedBy, NeverEqual, messagesOf, HeardOf, Marked, set, unset, MarkList, ReducedTo, Holds}
+use Rattle.model.specs.Replies.{RightListed, NoneRight, EquatedBy, NeverEqual, messagesOf, HeardOf, Marked, set, unset, MarkList, ReducedTo}
+use Rattle.model.proofs.Claims.{AlwaysSame, AlwaysListed, Holds}
 use Rattle.model.proofs.Claims.{Letter, A, B, C, D, E, F, G, H, I, J, K, K′, K″, L, M, R, bytesOf, starred, All}
 
 -- ---- as what they are read

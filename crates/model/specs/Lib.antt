@@ -5,3 +5,4 @@ pub mod Values
 pub mod Reduce
 pub mod Format
 pub mod Stored
+pub mod Replies
