@@ -8,3 +8,4 @@ pub mod EventLaws
 pub mod EventLoop
 pub mod VariableLaws
 pub mod CaseLaws
+pub mod Theorems

@@ -1,10 +1,18 @@
 -- The main theorems of this crate, each cited with its full statement.
 use mathlib.Core.Path.{_≡_}
 use mathlib.Core.Logic.{_↔_}
-use Prim.Native.Nat.{ℕ}
+use mathlib.Core.List.{List, List·Memᴰ}
+use Prim.Native.Nat.{ℕ, _+_, _≤_}
+use lib.ListN.{length, take}
 use Rattle.model.specs.Message.{Message, Built}
-use Rattle.model.specs.Case.{Table, Run, Reads, message, Lower, Right}
+use Rattle.model.specs.Case.{VA, File, Table, Run, Reads, message, Lower, Within, Right}
 use Rattle.model.specs.Values.{RightValues}
+use Rattle.model.specs.Format.{held, accepted, readFrom, readFile, fileBytes}
+use Rattle.model.proofs.Accepted.{Accepted, accepted-file}
+use Rattle.model.proofs.Fuel.{Few, fuel-enough}
+use Rattle.model.proofs.Held.{held-within}
+use Rattle.model.proofs.Prefix.{readFile-prefix}
+use Rattle.model.proofs.Written.{written-read}
 use Rattle.model.proofs.Steps.{built-built, built-more}
 use Rattle.model.proofs.Read.{message-reads, reads-one, right-values, values-right}
 use Rattle.model.proofs.Claims.{Holds, starred, All}
@@ -29,6 +37,27 @@ built-from-more = built-more
 -- What is built from built messages is built.
 pub built-from-built : {K L : Message → Type 0} → ((x : Message) → K x → Built L x) → {x : Message} → Built K x → Built L x
 built-from-built = built-built
+
+-- The computed list of the variables that a cell holds has exactly those that stand in it.
+pub held-iff-within : (T : Table) → Lower T → (v c : ℕ) → List·Memᴰ v (held T c) ↔ ((T v ≡ VA) × Within T v c)
+held-iff-within = held-within
+
+-- An accepted file has at most 128 cells and 128 events, parts lower than their cells, events that name cells, and no LN with a variable that no earlier MK held.
+pub accepted-is-formed : (s : List ℕ) (f : File) → readFile s ≡ accepted f → Accepted f
+accepted-is-formed = accepted-file
+
+-- The bytes of such a file are read as that file.
+pub written-is-read : (f : File) → Accepted f → readFile (fileBytes f) ≡ accepted f
+written-is-read = written-read
+
+-- What a file is read as depends on its first 899 bytes only.
+pub read-from-prefix : (s : List ℕ) → readFile s ≡ readFile (take 899 s)
+read-from-prefix = readFile-prefix
+
+-- The bound on the number of records is never met: any larger one gives the same reading.
+pub read-enough : (n m : ℕ) (rest : List ℕ) (at : ℕ) (f : File) → Few f → 257 ≤ n + length (f .cells) + length (f .events) → 257 ≤ m + length (f .cells) + length (f .events) →
+    readFrom n rest at f ≡ readFrom m rest at f
+read-enough = fuel-enough
 
 -- What document 01 says of each starred file holds of the definitions.
 pub starred-files : All Holds starred

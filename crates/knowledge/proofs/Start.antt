@@ -1,0 +1,64 @@
+-- Marks to start from, event by event: none before the first, one more at each LN; and marks that were found may be started from again.
+use mathlib.Core.Path.{_≡_, refl, sym, subst}
+use mathlib.Core.Logic.{_⊎_, inl, inr}
+use mathlib.Core.Option.{some}
+use mathlib.Core.List.{List}
+use mathlib.Core.Bool.{Bool, true, false}
+use Prim.Native.Nat.{ℕ, _+_, _<_}
+use native.Mathlib.Omega.{arith}
+use lib.Dec.{ltb}
+use borrow.Author.Tests.{ltb-true}
+use Rattle.model.specs.Case.{Event, LN, Table, Run, Learnt}
+use Rattle.model.specs.Stored.{runAt}
+use Rattle.model.proofs.Read.{clash}
+use Rattle.theory.specs.Cells.{classAt, On}
+use Rattle.theory.specs.Level.{Mark, seen}
+use Rattle.theory.proofs.Sweep.{mark-later, mark-rep}
+use Rattle.knowledge.specs.declared.Marks.{Marks}
+use Rattle.knowledge.specs.Knowledge.{ClassRow, Learns, Starts, Opened}
+use Rattle.knowledge.proofs.Grow.{same?, noMarks, none-on}
+
+module _ (T : Table) {n : ℕ} {rep : List ℕ} (w : ClassRow n rep) (ev : Run) where
+  -- Before the first event nothing is learnt.
+  pub starts-none : Starts T rep ev 0 noMarks
+  starts-none = record { low = λ c (q, lt, e). absurd (omega arith); high = λ c o. absurd (none-on c o) }
+
+  -- What is learnt before p + 1 is learnt before p or at p.
+  learnt-next : {p c : ℕ} → Learnt ev (p + 1) c → Learnt ev p c ⊎ (ev p ≡ some (LN c))
+  learnt-next {p} {c} (q, lt, e) = elim (same? q p) [ inl i ↦ inr (subst (λ k. ev k ≡ some (LN c)) i e) | inr o ↦ inl (q, omega arith, e) ]
+
+  module _ (p : ℕ) {s : List ℕ} (st : Starts T rep ev p s) where
+    later : {c : ℕ} → Mark T (classAt rep) ev p seen c → Mark T (classAt rep) ev (p + 1) seen c
+    later h = mark-later T (classAt rep) ev p (w .idem) (omega arith) h
+
+    -- An event that is no LN adds nothing.
+    pub starts-same : ((c : ℕ) → ev p ≡ some (LN c) → ⊥) → Starts T rep ev (p + 1) s
+    starts-same none = record { low = λ c h. elim (learnt-next h) [ inl l ↦ st .low c l | inr e ↦ absurd (none c e) ]; high = λ c o. later (st .high c o) }
+
+    -- An LN adds the class of its cell.
+    pub starts-learn : (c : ℕ) {r : List ℕ} → ev p ≡ some (LN c) → Learns rep s c r → Starts T rep ev (p + 1) r
+    starts-learn c {r} e x = record {
+      low = λ d h. elim (learnt-next h) [ inl l ↦ x .kept (classAt rep d) (st .low d l) | inr i ↦ subst (λ k. On r (classAt rep k)) (same d i) (x .learnt) ];
+      high = λ d o. elim (x .only d o) [
+        | inl k ↦ later (st .high d k)
+        | inr q ↦ subst (λ k. Mark T (classAt rep) ev (p + 1) seen k) (sym q) (mark-rep T (classAt rep) ev (p + 1) (w .idem) (Mark.learnt (p, omega arith, e)))
+      ];
+    }
+      where
+        same : (d : ℕ) → ev p ≡ some (LN d) → c ≡ d
+        same d i = cc
+
+    -- The marks of what is seen may be started from.
+    pub starts-opened : {r : Marks} → Opened T rep s r → Starts T rep ev p (r .seen)
+    starts-opened {r} o = record {
+      low = λ c h. o .seen ev p st c .1 (Mark.learnt h);
+      high = λ c x. o .seen ev p st c .0 (subst (On (r .seen)) (sym (o .seen-marked .stand c x)) x);
+    }
+
+-- Every event of a run of m events stands before position m.
+pub run-late : (m : ℕ) (kinds cells : List ℕ) (q : ℕ) {e : Event} → runAt m kinds cells q ≡ some e → q < m
+run-late m kinds cells q {e} i = go (ltb q m) refl
+  where
+    go : (t : Bool) → ltb q m ≡ t → q < m
+    go true z = ltb-true q m z
+    go false z = clash (cc)
