@@ -7,6 +7,7 @@ pub mod Answers
 pub mod Reduce
 pub mod Sort
 pub mod Exists
+pub mod Reduced
 pub mod Twins
 pub mod Merge
 pub mod Close
