@@ -10,6 +10,7 @@ pub mod Accepted
 pub mod Rows
 pub mod Fuel
 pub mod Prefix
+pub mod Places
 pub mod Written
 pub mod Variables
 pub mod Sizes
