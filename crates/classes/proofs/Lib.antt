@@ -1,0 +1,11 @@
+pub mod Count
+pub mod CellLaws
+pub mod RowLaws
+pub mod JoinLaws
+pub mod DifferLaws
+pub mod Tags
+pub mod TwinLaws
+pub mod SolvedLaws
+pub mod SettleLaws
+pub mod PeelLaws
+pub mod UnifyLaws

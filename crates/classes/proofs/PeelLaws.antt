@@ -1,0 +1,194 @@
+-- The occurs check: marks that grow upwards from cells without parts, and what it means that all cells, or not all, are marked.
+use mathlib.Core.Path.{_≡_, refl, sym, _∙_, ap, subst}
+use mathlib.Core.Bool.{Bool, true, false, cond, not, true≢false, false≢true}
+use mathlib.Core.List.{List}
+use mathlib.Core.Logic.{_⊎_, inl, inr}
+use Prim.Native.Nat.{ℕ, zero, suc, _+_, _≤_, _<_, min}
+use native.Mathlib.Omega.{arith}
+use native.Mathlib.Decide.{decLt}
+use native.Mathlib.Nat.{min-eq-left, min-eq-right}
+use lib.Dec.{eqb}
+use lib.ListN.{length, getD, set, length-set, replicate, length-replicate, getD-replicate, List·getD-eq-default}
+use lib.Seq.{getD-set-same, getD-set-other}
+use borrow.Author.Count.{below-more}
+use borrow.Author.Tests.{eq-eqb, ne-eqb}
+use Rattle.model.specs.Message.{One, Two}
+use Rattle.model.specs.Case.{ONE, TWO, Table, Part, in-arg, in-left, in-right}
+use Rattle.model.specs.Stored.{cellAt, tableAt}
+use Rattle.model.proofs.Finite.{eq?}
+use Rattle.theory.specs.Cells.{Rows, On, classAt}
+use Rattle.theory.proofs.Answers.{round-no}
+use Rattle.classes.specs.Kept.{Kept, Finite, Unmet}
+use Rattle.classes.specs.Peel.{Done, classTable, Peeled, Fresh, undone, Peels}
+use Rattle.classes.proofs.Count.{count-lt}
+use Rattle.classes.proofs.RowLaws.{rows-beyond}
+use Rattle.classes.proofs.SettleLaws.{part-inside}
+
+-- ---- the parts of a cell, by its kind
+parts-one : (marks : List ℕ) (g : One) (a : ℕ) → On marks a → Done marks (ONE g a)
+parts-one marks g a h d in-arg = h
+
+parts-two : (marks : List ℕ) (t : Two) (a b : ℕ) → On marks a → On marks b → Done marks (TWO t a b)
+parts-two marks t a b h i d in-left = h
+parts-two marks t a b h i d in-right = i
+
+module _ (marks : List ℕ) where
+  pub done-none : (k a b : ℕ) → k < 2 → Done marks (cellAt k a b)
+  done-none zero a b h = λ d p. elim p [ ]
+  done-none (suc zero) a b h = λ d p. elim p [ ]
+  done-none (suc (suc k)) a b h = absurd (omega arith)
+
+  pub done-app : (k a b : ℕ) → k ≡ 4 → On marks b → Done marks (cellAt k a b)
+  done-app k a b e h = rw e (parts-one marks _ b h)
+
+  pub done-two : (k a b : ℕ) → 2 ≤ k → k ≤ 4 → (k ≡ 4 → ⊥) → On marks a → On marks b → Done marks (cellAt k a b)
+  done-two zero a b l m ne h i = absurd (omega arith)
+  done-two (suc zero) a b l m ne h i = absurd (omega arith)
+  done-two (suc (suc zero)) a b l m ne h i = parts-two marks _ a b h i
+  done-two (suc (suc (suc zero))) a b l m ne h i = parts-two marks _ a b h i
+  done-two (suc (suc (suc (suc k)))) a b l m ne h i = absurd (omega arith)
+
+  pub done-second : (k a b : ℕ) → 2 ≤ k → Done marks (cellAt k a b) → On marks b
+  done-second zero a b l h = absurd (omega arith)
+  done-second (suc zero) a b l h = absurd (omega arith)
+  done-second (suc (suc zero)) a b l h = h b in-right
+  done-second (suc (suc (suc zero))) a b l h = h b in-right
+  done-second (suc (suc (suc (suc k)))) a b l h = h b in-arg
+
+  pub done-first : (k a b : ℕ) → 2 ≤ k → k ≤ 4 → (k ≡ 4 → ⊥) → Done marks (cellAt k a b) → On marks a
+  done-first zero a b l m ne h = absurd (omega arith)
+  done-first (suc zero) a b l m ne h = absurd (omega arith)
+  done-first (suc (suc zero)) a b l m ne h = h a in-left
+  done-first (suc (suc (suc zero))) a b l m ne h = h a in-left
+  done-first (suc (suc (suc (suc k)))) a b l m ne h = absurd (omega arith)
+
+-- ---- one more mark
+module _ (marks : List ℕ) (c : ℕ) (h : c < length marks) where
+  abbrev next : List ℕ
+  next = set marks c 1
+
+  on-here : On next c
+  on-here = getD-set-same marks c 1 0 h
+
+  on-cases : (x : ℕ) → On next x → (x ≡ c) ⊎ On marks x
+  on-cases x o = elim (eq? x c) [ inl e ↦ inl e | inr ne ↦ inr (sym (getD-set-other marks c x 1 0 ne) ∙ o) ]
+
+  on-kept : (x : ℕ) → On marks x → On next x
+  on-kept x o = elim (eq? x c) [ inl e ↦ subst (On next) (sym e) on-here | inr ne ↦ getD-set-other marks c x 1 0 ne ∙ o ]
+
+  unmarked : (l : List ℕ) (x : ℕ) → (On l x → ⊥) → not (eqb (getD l x 0) 1) ≡ true
+  unmarked l x ne = rw (ne-eqb (getD l x 0) 1 ne)
+
+  marked : (l : List ℕ) (x : ℕ) → On l x → not (eqb (getD l x 0) 1) ≡ false
+  marked l x o = rw (eq-eqb (getD l x 0) 1 o)
+
+  pub undone-less : (On marks c → ⊥) → c < 129 → undone next < undone marks
+  undone-less fresh small =
+      count-lt (λ x. not (eqb (getD marks x 0) 1)) (λ x. not (eqb (getD next x 0) 1))
+      (λ x e. unmarked marks x (λ o. true≢false (sym e ∙ marked next x (on-kept x o))))
+      c (unmarked marks c fresh) (marked next c on-here) 129 small
+
+  module _ (S : Table) (P : Peeled S marks) (fresh : On marks c → ⊥) (parts : Done marks (S c)) where
+    rank : ℕ → ℕ
+    rank x = cond (eqb x c) (P .top) (P .rank x)
+
+    rank-here : (x : ℕ) → x ≡ c → rank x ≡ P .top
+    unfolding rank
+    rank-here x e = rw (eq-eqb x c e)
+
+    rank-old : (x : ℕ) → On marks x → rank x ≡ P .rank x
+    unfolding rank
+    rank-old x o = rw (ne-eqb x c (λ e. fresh (subst (On marks) e o)))
+
+    below : (x : ℕ) → On next x → rank x < P .top + 1
+    below x o = elim (on-cases x o) [
+      | inl e ↦ omega (arith, rank-here x e)
+      | inr i ↦ omega (arith, rank-old x i, P .below x i)
+    ]
+
+    lower : (x d : ℕ) → On next x → Part (S x) d → On next d × (rank d < rank x)
+    lower x d o p = elim (on-cases x o) [
+      | inl e ↦ (let i : On marks d = parts d (subst (λ y. Part (S y) d) e p) in
+          (on-kept d i, omega (arith, rank-here x e, rank-old d i, P .below d i)))
+      | inr i ↦ (let (j, l) = P .lower x d i p in (on-kept d j, omega (arith, rank-old x i, rank-old d j)))
+    ]
+
+    pub peeled-more : Peeled S next
+    peeled-more = record { long = length-set marks c 1 ∙ P .long; rank = rank; top = P .top + 1; below = below; lower = lower }
+
+-- At the start nothing is marked.
+zeros : (n c : ℕ) → _≡_ {A = ℕ} (getD (replicate n 0) c 0) 0
+zeros n c = elim (decLt c n) [
+  | yes h ↦ getD-replicate n c 0 0 h
+  | no h ↦ (let row : List ℕ = replicate n 0 in let e : length row ≡ n = length-replicate n 0 in List·getD-eq-default row 0 (omega arith))
+]
+
+pub peeled-none : (S : Table) → Peeled S (replicate 129 0)
+peeled-none S =
+    record {
+      long = length-replicate {A = ℕ} 129 0;
+      rank = λ c. 0;
+      top = 0;
+      below = λ c o. absurd (omega (arith, zeros 129 c));
+      lower = λ c d o p. absurd (omega (arith, zeros 129 c));
+    }
+
+-- ---- the turns of a sweep
+module _ (S : Table) (marks : List ℕ) where
+  pub peels-none : Peeled S marks → Peels S marks 0 marks false
+  peels-none P = record { peeled = P; most = omega arith; fewer = λ e. absurd (false≢true e); shut = λ e c h. absurd (omega arith) }
+
+  module _ (c : ℕ) (out : List ℕ) (changed : Bool) (w : Peels S marks c out changed) (small : c < 129) where
+    pub peels-mark : Fresh S out c true → Peels S marks (c + 1) (set out c 1) true
+    peels-mark f =
+        let h : c < length out = omega (arith, w .peeled .long) in
+        let (new, parts) = f .yes refl in
+        record {
+          peeled = peeled-more out c h S (w .peeled) new parts;
+          most = omega (arith, undone-less out c h new small, w .most);
+          fewer = λ _. omega (arith, undone-less out c h new small, w .most);
+          shut = λ e. absurd (true≢false e);
+        }
+
+    pub peels-skip : Fresh S out c false → Peels S marks (c + 1) out changed
+    peels-skip f =
+        record {
+          peeled = w .peeled;
+          most = w .most;
+          fewer = w .fewer;
+          shut = λ e. below-more (λ (i : ℕ). Done out (S i) → On out i) c (w .shut e) (f .no refl);
+        }
+
+-- ---- what the marks say of the classes
+module _ (n : ℕ) (kinds firsts seconds : List ℕ) (w : Rows n kinds firsts seconds) (rep : List ℕ) (K : Kept n (tableAt kinds firsts seconds) rep) (marks : List ℕ) where
+  abbrev S : Table
+  S = classTable (tableAt kinds firsts seconds) rep
+
+  -- The cells beyond the table's are as the first of them.
+  class-min : (c : ℕ) → classAt rep c ≡ classAt rep (min c n)
+  class-min c = elim (decLt c n) [
+    | yes h ↦ ap (classAt rep) (sym (min-eq-left (le h)))
+    | no h ↦ K .names c n 0 (rows-beyond n kinds firsts seconds w c (omega arith)) (rows-beyond n kinds firsts seconds w n (omega arith)) ∙ ap (classAt rep) (sym (min-eq-right (omega arith)))
+  ]
+    where
+      le : c < n → c ≤ n
+      le h = omega arith
+
+  part-min : (c d : ℕ) → Part (S c) d → Part (S (min c n)) d
+  part-min c d = subst (λ k. Part (tableAt kinds firsts seconds k) d) (class-min c)
+
+  part-low : (c d : ℕ) → Part (S c) d → min d n ≡ d
+  part-low c d p = let (h, i) = part-inside n kinds firsts seconds w (classAt rep c) d p in min-eq-left (omega arith)
+
+  pub peeled-finite : Peeled S marks → ((c : ℕ) → c < n + 1 → On marks c) → Finite (tableAt kinds firsts seconds) (classAt rep)
+  peeled-finite P all = (
+    λ c. P .rank (min c n),
+    λ c d p. subst (λ x. P .rank x < P .rank (min c n)) (sym (part-low c d p))
+        (P .lower (min c n) d (all (min c n) (omega arith)) (part-min c d p) .1),
+  )
+
+  pub peeled-round : ((c : ℕ) → c < n + 1 → Done marks (S c) → On marks c) → (c : ℕ) → c < n + 1 → (On marks c → ⊥) → Unmet (tableAt kinds firsts seconds) (classAt rep)
+  peeled-round shut c h no-c =
+      round-no (tableAt kinds firsts seconds) (classAt rep) (λ c. On marks (min c n))
+      (λ c parts. shut (min c n) (omega arith) (λ d p. subst (On marks) (part-low (min c n) d p) (parts d (subst (λ k. Part (tableAt kinds firsts seconds k) d) (sym (class-min c)) p))))
+      c (λ o. no-c (subst (On marks) (min-eq-left (omega arith)) o))

@@ -1,0 +1,55 @@
+-- Parts that all messages make equal are joined; other answers leave the classes as they are.
+use borrow.Author.Needs.{needs}
+use mathlib.Core.Bool.{true≢false}
+use Rattle.model.specs.Stored.{tableAt}
+use Rattle.classes.specs.declared.Diff.the-variants.{Parts}
+use Rattle.classes.specs.Settle.{Asks}
+use Rattle.classes.proofs.SettleLaws.{moved-none, moved-join}
+use Rattle.classes.proofs.Tags.{tag-none}
+use Rattle.classes.proofs.bind.Statement.{statement}
+use Rattle.classes.proofs.bind.Tie as tie
+
+differ-requires : tie.Need-differ-requires
+differ-requires c κs = search needs
+
+enum-known-d : tie.Need-enum-known-d
+enum-known-d c = search needs
+
+same-requires : tie.Need-same-requires
+same-requires c κs = search needs
+
+returns : tie.Need-returns
+returns c =
+    let q = c .before .before in
+    let s = q .before in
+    let a = s .args in
+    let T = tableAt (a .kind .now) (a .first .now) (a .second .now) in
+    let (no-at, shut-at) = tag-none (a .n) T (a .rep) (a .c) (q .differ .result) (c .same .result) (c .before .match .keys2) (q .differ .ensures) (c .same .ensures) in
+    record { no = no-at; yes = λ _. moved-none (a .n) T (a .rep) (s .pre .1); shut = λ e _. shut-at e }
+
+join-requires : tie.Need-join-requires
+join-requires c κs =
+    let q = c .before .before .before in
+    let s = q .before in
+    let a = s .args in
+    let g = c .before .d .given in
+    let asks : Asks (a .n) (tableAt (a .kind .now) (a .first .now) (a .second .now)) (a .rep) (a .c) (Parts (g .0 .0) (g .0 .1 .0)) = rw (g .1) at (q .differ .ensures) in
+    (s .pre .0, (s .pre .1, (asks .0, asks .1)))
+
+returns-2 : tie.Need-returns-2
+returns-2 c =
+    let q = c .before .before .before .before in
+    let s = q .before in
+    let a = s .args in
+    let T = tableAt (a .kind .now) (a .first .now) (a .second .now) in
+    let g = c .before .before .d .given in
+    let asks : Asks (a .n) T (a .rep) (a .c) (Parts (g .0 .0) (g .0 .1 .0)) = rw (g .1) at (q .differ .ensures) in
+    record {
+      no = λ e. absurd (true≢false e);
+      yes = λ _. moved-join (a .n) T (a .rep) (c .join .result) (a .c) (g .0 .0) (g .0 .1 .0) asks (c .join .ensures);
+      shut = λ _ e. absurd (true≢false e);
+    }
+
+pub bind-spec : {M : Type 1} → statement M
+bind-spec =
+    tie.close (tie.spec differ-requires enum-known-d same-requires returns join-requires returns-2)

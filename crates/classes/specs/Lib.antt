@@ -1,0 +1,5 @@
+pub mod Kept
+pub mod Differ
+pub mod Twins
+pub mod Settle
+pub mod Peel

@@ -1,0 +1,30 @@
+-- The first class array of a table: cells that show equal trees are one class.
+-- Twin: the lowest cell that is alike; First: what the entry of one cell is; Start: what the whole array keeps.
+use mathlib.Core.Path.{_≡_}
+use mathlib.Core.List.{List}
+use Prim.Native.Nat.{ℕ, _≤_, _<_}
+use Rattle.model.specs.Message.{Message}
+use Rattle.model.specs.Case.{VA, Table, Reads}
+use Rattle.theory.specs.Cells.{classAt}
+use Rattle.theory.specs.Classes.{Alike, Sat}
+use Rattle.classes.specs.Kept.{Solved}
+
+-- The cell c stands with the lowest cell that is alike by the classes of the parts; a variable stands alone.
+pub record First (T : Table) (cls : ℕ → ℕ) (c : ℕ) : Type 0 where
+  pub low : cls c ≤ c
+  pub alone : T c ≡ VA → cls c ≡ c
+  pub same : (T c ≡ VA → ⊥) → Alike cls (T c) (T (cls c))
+  pub least : (d : ℕ) → d < cls c → Alike cls (T c) (T d) → ⊥
+
+-- The cell r, not above c, is the lowest that is alike c by the classes, or c itself.
+pub record Twin (T : Table) (cls : ℕ → ℕ) (c r : ℕ) : Type 0 where
+  pub low : r ≤ c
+  pub hit : r < c → Alike cls (T c) (T r)
+  pub miss : (d : ℕ) → d < r → Alike cls (T c) (T d) → ⊥
+
+-- The first class array: solved, satisfied by all messages of the cells, and cells that are alike are of one class.
+pub record Start (n : ℕ) (T : Table) (rep : List ℕ) : Type 0 where
+  pub solved : Solved n T rep
+  pub met : (m : ℕ → Message) → Reads T m m → Sat (classAt rep) m
+  pub up : (c d : ℕ) → Alike (classAt rep) (T c) (T d) → classAt rep c ≡ classAt rep d
+  pub alone : (c : ℕ) → T c ≡ VA → classAt rep c ≡ c
