@@ -1,0 +1,162 @@
+-- From what is read of the bytes and the reply on the stored table to the promise; and that the promise settles the reply.
+use mathlib.Core.Path.{_≡_, refl, sym, _∙_, ap, subst, fun-ext}
+use mathlib.Core.List.{List}
+use mathlib.Core.Logic.{_⊎_, inl, inr}
+use Prim.Native.Nat.{ℕ}
+use native.Mathlib.Decide.{decLt}
+use native.Mathlib.Omega.{arith}
+use lib.ListN.{length, take, drop}
+use lib.Seq.{take-at, drop-at}
+use Rattle.model.specs.Message.{Message}
+use Rattle.model.specs.Case.{File, tableOf, message}
+use Rattle.model.specs.Format.{readFile, Reading, refused, accepted}
+use Rattle.model.specs.Stored.{tableAt}
+use Rattle.model.specs.Replies.{EquatedBy, NeverEqual, laid}
+use Rattle.model.proofs.Read.{clash}
+use Rattle.model.proofs.Rows.{table-rows}
+use Rattle.model.proofs.Accepted.{Bytes, accepted-file}
+use Rattle.theory.specs.Cells.{Rows}
+use Rattle.theory.proofs.Rows.{accepted-rows}
+use Rattle.casefile.specs.declared.Case.{Case}
+use Rattle.casefile.specs.declared.cells.Table.{Table}
+use Rattle.casefile.specs.declared.events.Verdict.the-variants as verdict
+use Rattle.casefile.specs.Cells.{stored}
+use Rattle.casefile.specs.Case.{caseOf}
+use Rattle.equating.specs.declared.Equated.{Equated}
+use Rattle.equating.specs.declared.Equated.the-variants.{Refused, No, Listed}
+use Rattle.equating.specs.Cells.{CellsEquated}
+use Rattle.equating.specs.Promise.{Asked, Answered, EquatePromise, SameButList, same, lists}
+use Rattle.equating.proofs.EndsLaws.{equates-values}
+
+-- ---- what was read
+
+pub case-refused : (x : Reading) (r : Case) → r ≡ caseOf x → (number place : ℕ) → r .verdict ≡ verdict.Refused number place → x ≡ refused number place
+case-refused (refused n p) r e number place v = let z = ap (λ (u : Case). u .verdict) e in cc
+case-refused (accepted f) r e number place v = let z = ap (λ (u : Case). u .verdict) e in clash (cc)
+
+pub case-accepted : (x : Reading) (r : Case) → r ≡ caseOf x → r .verdict ≡ verdict.Accepted → (f : File) × (x ≡ accepted f) × (r .table ≡ stored (f .cells))
+case-accepted (refused n p) r e v = let z = ap (λ (u : Case). u .verdict) e in clash (cc)
+case-accepted (accepted f) r e v = (f, refl, ap (λ (u : Case). u .table) e)
+
+-- The rows of the table that was read,
+pub table-kept : (file : List ℕ) (f : File) (t : Table) → Bytes file → readFile file ≡ accepted f → t ≡ stored (f .cells) → Rows (t .cells) (t .kind) (t .first) (t .second)
+table-kept file f t bytes read e = subst (λ (u : Table). Rows (u .cells) (u .kind) (u .first) (u .second)) (sym e) (accepted-rows file f bytes read)
+
+-- and the reply on them, said of the file's cells.
+module _ (a b : ℕ) (before : List ℕ) (reply : Equated) (after : List ℕ) where
+  abbrev pub OfFile : File → Type 0
+  OfFile f = CellsEquated (length (f .cells)) (tableOf (f .cells)) a b before reply after
+
+  pub table-file : (f : File) (t : Table) → t ≡ stored (f .cells) → CellsEquated (t .cells) (tableAt (t .kind) (t .first) (t .second)) a b before reply after → OfFile f
+  table-file f t e w =
+      subst (λ T. CellsEquated (length (f .cells)) T a b before reply after) (fun-ext (table-rows (f .cells)))
+      (subst (λ (u : Table). CellsEquated (u .cells) (tableAt (u .kind) (u .first) (u .second)) a b before reply after) e w)
+
+-- ---- the promise
+
+module _ (file : List ℕ) (a b : ℕ) (before : List ℕ) where
+  pub promise-refused : (number place : ℕ) → readFile file ≡ refused number place → EquatePromise file a b before (Refused number place) before
+  promise-refused number place r = record {
+    unread = λ n p e. (let z : refused number place ≡ refused n p = sym r ∙ e in cc, refl);
+    outside = λ f e. clash (cc);
+    short = λ f q. (let e = q .read in clash (cc));
+    replied = λ f q. (let e = q .asked .read in clash (cc));
+    no = λ f q. (let e = q .asked .read in clash (cc));
+    listed = λ f q. (let e = q .asked .read in clash (cc));
+  }
+
+  module _ (f : File) (r : readFile file ≡ accepted f) (reply : Equated) (after : List ℕ) (w : OfFile a b before reply after f) where
+    -- The bytes are read as one file.
+    one : (g : File) → readFile file ≡ accepted g → OfFile a b before reply after g
+    one g e = let z : accepted f ≡ accepted g = sym r ∙ e in let y : f ≡ g = cc in subst (OfFile a b before reply after) y w
+
+    pub promise-accepted : EquatePromise file a b before reply after
+    promise-accepted = record {
+      unread = λ n p e. clash (cc);
+      outside = λ g e. one g e .outside;
+      short = λ g q. one g (q .read) .short (q .first) (q .second);
+      replied = λ g q. one g (q .asked .read) .replied (q .asked .first) (q .asked .second) (q .room);
+      no = λ g q. one g (q .asked .read) .no (q .asked .first) (q .asked .second) (q .room);
+      listed = λ g q. one g (q .asked .read) .listed (q .asked .first) (q .asked .second) (q .room);
+    }
+
+-- ---- "no" and a list exclude each other
+
+-- A list that equates two cells comes with values that make them equal.
+pub equated-values : (file : List ℕ) (f : File) (a b : ℕ) (list : List ℕ) → readFile file ≡ accepted f → EquatedBy f a b list →
+    (ρ : ℕ → Message) × (message (tableOf (f .cells)) ρ a ≡ message (tableOf (f .cells)) ρ b)
+equated-values file f a b list read (size, own, w) = equates-values (tableOf (f .cells)) a b _ (accepted-file file f read .lower) w
+
+pub never-equated : (file : List ℕ) (f : File) (a b : ℕ) (list : List ℕ) → readFile file ≡ accepted f → NeverEqual f a b → EquatedBy f a b list → ⊥
+never-equated file f a b list read never w = let (ρ, e) = equated-values file f a b list read w in never ρ e
+
+-- ---- the list as it stands in the buffer
+
+laid-front : (list before : List ℕ) (n : ℕ) → length list ≡ n → take n (laid list before) ≡ list
+laid-front list before n e = take-at list (drop (length list) before) n e
+
+laid-beyond : (list before : List ℕ) (n : ℕ) → length list ≡ n → drop n (laid list before) ≡ drop n before
+laid-beyond list before n e = drop-at list (drop (length list) before) n e ∙ ap (λ (k : ℕ). drop k before) e
+
+module _ (file : List ℕ) (a b : ℕ) (before : List ℕ) (reply : Equated) (after : List ℕ) (p : EquatePromise file a b before reply after) (f : File) (q : Answered file a b before f) where
+  pub listed-front : reply ≡ Listed (length (f .cells)) → EquatedBy f a b (take (length (f .cells)) after) × (drop (length (f .cells)) after ≡ drop (length (f .cells)) before)
+  listed-front e =
+      let (list, w, k) = p .listed f q e in
+      let n = length (f .cells) in
+      (subst (EquatedBy f a b) (sym (ap (take n) k ∙ laid-front list before n (w .0))) w, ap (drop n) k ∙ laid-beyond list before n (w .0))
+
+  -- The reply is "no" if no values make the two cells equal.
+  pub no-of-never : NeverEqual f a b → reply ≡ No
+  no-of-never never = elim (p .replied f q) [
+    | inl e ↦ e
+    | inr e ↦ (let (list, w, k) = p .listed f q e in absurd (never-equated file f a b list (q .asked .read) never w))
+  ]
+
+-- ---- the promise settles the reply
+
+module _ (file : List ℕ) (a b : ℕ) (before : List ℕ) (r r′ : Equated) (after after′ : List ℕ)
+    (p : EquatePromise file a b before r after) (p′ : EquatePromise file a b before r′ after′) where
+  abbrev Alike : Type 0
+  Alike = (r ≡ r′) × SameButList file a b before after after′
+
+  -- Two refusals are one.
+  refusals : {x : Equated} → (r ≡ x) × (after ≡ before) → (r′ ≡ x) × (after′ ≡ before) → Alike
+  refusals (e, k) (e′, k′) = (e ∙ sym e′, same (k ∙ sym k′))
+
+  module _ (f : File) (q : Answered file a b before f) where
+    -- One "no" is not beside a list.
+    mixed : {A : Type 0} → NeverEqual f a b → (list : List ℕ) → EquatedBy f a b list → A
+    mixed never list w = absurd (never-equated file f a b list (q .asked .read) never w)
+
+    answers : (r ≡ No) ⊎ (r ≡ Listed (length (f .cells))) → (r′ ≡ No) ⊎ (r′ ≡ Listed (length (f .cells))) → Alike
+    answers (inl e) (inl e′) = (e ∙ sym e′, same (p .no f q e .1 ∙ sym (p′ .no f q e′ .1)))
+    answers (inl e) (inr e′) = let (list, w, k) = p′ .listed f q e′ in mixed (p .no f q e .0) list w
+    answers (inr e) (inl e′) = let (list, w, k) = p .listed f q e in mixed (p′ .no f q e′ .0) list w
+    answers (inr e) (inr e′) =
+        let (list, w, k) = p .listed f q e in
+        let (list′, w′, k′) = p′ .listed f q e′ in
+        let n = length (f .cells) in (
+          e ∙ sym e′,
+          lists f list list′ (q .asked .read) w w′ k k′
+              (ap (drop n) k ∙ (laid-beyond list before n (w .0) ∙ (sym (laid-beyond list′ before n (w′ .0)) ∙ ap (drop n) (sym k′)))),
+        )
+
+  pub settled : Alike
+  settled = go (readFile file) refl
+    where
+      go : (x : Reading) → readFile file ≡ x → Alike
+      go (refused n at) e = refusals (p .unread n at e) (p′ .unread n at e)
+      go (accepted f) e = elim (decLt a (length (f .cells))) [
+        | no o ↦ refusals (p .outside f e (inl (omega arith))) (p′ .outside f e (inl (omega arith)))
+        | yes h ↦ elim (decLt b (length (f .cells))) [
+          | no o ↦ refusals (p .outside f e (inr (omega arith))) (p′ .outside f e (inr (omega arith)))
+          | yes k ↦ elim (decLt (length before) (length (f .cells))) [
+            | yes s ↦
+                (let q : Asked file a b f = record { read = e; first = h; second = k } in
+                refusals (p .short f q s) (p′ .short f q s))
+            | no s ↦
+                (let q : Answered file a b before f = record { asked = record { read = e; first = h; second = k }; room = omega arith } in
+                answers f q (p .replied f q) (p′ .replied f q))
+          ]
+        ]
+      ]
