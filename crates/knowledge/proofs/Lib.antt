@@ -5,3 +5,4 @@ pub mod Sound
 pub mod Closing
 pub mod Ground
 pub mod Start
+pub mod HeardLaws

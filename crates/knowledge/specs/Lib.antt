@@ -1,2 +1,3 @@
 pub mod Knowledge
 pub mod Sweeps
+pub mod Heard

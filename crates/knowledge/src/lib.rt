@@ -1,4 +1,6 @@
 // What he sees and can build, by classes of cells: two sweeps over the cells, repeated until nothing changes.
+pub mod heard;
+
 ghost use mathlib.Core.Path.{_≡_};
 ghost use Prim.Native.Nat.{ℕ, _≤_, _<_, _+_, _*_};
 ghost use Rattle.model.specs.Stored.{cellAt, tableAt};

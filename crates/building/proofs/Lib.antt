@@ -1,0 +1,4 @@
+pub mod LayLaws
+pub mod PromiseLaws
+pub mod CaseLaws
+pub mod Theorems

@@ -1,0 +1,2 @@
+-- The laws of the numbers.
+pub mod EquateLaws

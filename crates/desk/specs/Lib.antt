@@ -1,0 +1,2 @@
+-- Replies as numbers.
+pub mod Numbers

@@ -1,0 +1,21 @@
+-- The replies of the five questions as numbers, and what a number tells.
+use mathlib.Core.Path.{_≡_}
+use mathlib.Core.List.{List}
+use Prim.Native.Nat.{ℕ, _+_, _*_, _^_}
+use Rattle.equating.specs.declared.Equated.{Equated}
+use Rattle.equating.specs.declared.Equated.the-variants as equated
+use Rattle.equating.specs.Promise.{EquatePromise}
+
+-- A refusal: its number, and its place below 2 ^ 32.
+abbrev pub refusalNumber : ℕ → ℕ → ℕ
+refusalNumber number place = number * 2 ^ 32 + place
+
+-- Equating.
+abbrev pub equateNumber : Equated → ℕ
+equateNumber (equated.Refused number place) = refusalNumber number place
+equateNumber equated.No = 0
+equateNumber (equated.Listed n) = n + 1
+
+-- The number r is that of a reply that keeps the promise of equating.
+abbrev pub EquateTold : List ℕ → ℕ → ℕ → List ℕ → ℕ → List ℕ → Type 0
+EquateTold file a b before r after = (reply : Equated) × EquatePromise file a b before reply after × (r ≡ equateNumber reply)

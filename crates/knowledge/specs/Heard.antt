@@ -1,0 +1,41 @@
+-- What he can build from all that is learnt, for a table without variables: what build marks and reducing stand on.
+-- EventRows: what the rows of a run keep; LearntAll: the marks of all learnt cells; HeardOpened: the classes and marks that are found; FileKnown: the same of a file.
+use mathlib.Core.Path.{_≡_}
+use mathlib.Core.Logic.{_↔_}
+use mathlib.Core.List.{List}
+use Prim.Native.Nat.{ℕ, _≤_, _<_}
+use lib.ListN.{length, getD}
+use Rattle.model.specs.Message.{Message, Built}
+use Rattle.model.specs.Case.{VA, Table, Run, File, Heard, Ground, tableOf}
+use Rattle.model.specs.Replies.{messagesOf, HeardOf}
+use Rattle.theory.specs.Cells.{classAt, On}
+use Rattle.classes.specs.Twins.{Start}
+use Rattle.knowledge.specs.declared.heard.Knowledge.{Knowledge}
+use Rattle.knowledge.specs.Knowledge.{Marked, Starts}
+
+-- What the row of the events' cells keeps, of a run of m events over n cells: there are few, and each cell is one of the table.
+pub record EventRows (n m : ℕ) (cells : List ℕ) : Type 0 where
+  pub few : m ≤ 128
+  pub inside : (p : ℕ) → p < m → getD cells p 0 < n
+
+-- The marks r hold what is learnt before position p, and only what is seen there.
+pub record LearntAll (rep : List ℕ) (ev : Run) (p : ℕ) (r : List ℕ) : Type 0 where
+  pub marked : Marked rep r
+  pub starts : (T : Table) → Starts T rep ev p r
+
+-- Of a table T of n cells and a run: the first class array, and marks on the cells that stand for their class. Without variables cells are of one class exactly if
+-- they show one message, and the mark of its class says of a cell whether its message can be built from all that is learnt.
+pub record HeardOpened (n : ℕ) (T : Table) (ev : Run) (r : Knowledge) : Type 0 where
+  pub classes : Start n T (r .rep)
+  pub seen-marked : Marked (r .rep) (r .seen)
+  pub built-marked : Marked (r .rep) (r .built)
+  pub exact : ((c : ℕ) → T c ≡ VA → ⊥) → (m : ℕ → Message) → Ground T m → (c d : ℕ) → (m c ≡ m d) ↔ (classAt (r .rep) c ≡ classAt (r .rep) d)
+  pub built : ((c : ℕ) → T c ≡ VA → ⊥) → (m : ℕ → Message) → Ground T m → (c : ℕ) → On (r .built) (classAt (r .rep) c) ↔ Built (Heard ev m) (m c)
+
+-- The same of the messages of a file without variables.
+pub record FileKnown (f : File) (r : Knowledge) : Type 0 where
+  pub classes : Start (length (f .cells)) (tableOf (f .cells)) (r .rep)
+  pub seen-marked : Marked (r .rep) (r .seen)
+  pub built-marked : Marked (r .rep) (r .built)
+  pub exact : (c d : ℕ) → (messagesOf f c ≡ messagesOf f d) ↔ (classAt (r .rep) c ≡ classAt (r .rep) d)
+  pub built : (c : ℕ) → On (r .built) (classAt (r .rep) c) ↔ Built (HeardOf f) (messagesOf f c)

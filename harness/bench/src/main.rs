@@ -1,0 +1,87 @@
+//! Times of the library beside the published lazy intruder, and growth with the number of cells, as Markdown tables.
+
+mod clock;
+mod growth;
+mod measure;
+mod runs;
+mod stack;
+
+use std::process::ExitCode;
+use std::time::Duration;
+
+use measure::Limits;
+
+const HELP: &str = "\
+bench: the library's run beside the lazy intruder as published, and its other questions by size.
+
+  --cases FOLDER      folder of *.case files (cases, else harness/cases)
+  --family NAME       only families whose name begins so
+  --each N            generated cases per family (15)
+  --seed S            seed of the generated cases (1)
+  --library-limit MS  time for one run of the library (10000)
+  --lazy-limit MS     time for one run of the lazy intruder (2000)
+  --only runs|growth  one of the two tables
+
+Exit status: 0, or 1 if two ways of solving disagree, 2 for a flag not understood.";
+
+pub struct Options {
+    pub cases: String,
+    pub family: String,
+    pub each: u64,
+    pub seed: u64,
+    pub limits: Limits,
+    only: String,
+    measure: Option<Vec<u8>>,
+}
+
+fn options() -> Result<Options, String> {
+    let here = if std::path::Path::new("cases").is_dir() { "cases" } else { "harness/cases" };
+    let limits = Limits { library: Duration::from_secs(10), lazy: Duration::from_secs(2) };
+    let mut options = Options { cases: here.into(), family: String::new(), each: 15, seed: 1, limits, only: String::new(), measure: None };
+    let mut args = std::env::args().skip(1);
+    while let Some(flag) = args.next() {
+        let value = args.next().ok_or(HELP)?;
+        let number = || value.parse::<u64>().map_err(|_| format!("{flag}: {value} is no number"));
+        match flag.as_str() {
+            "--cases" => options.cases = value,
+            "--family" => options.family = value,
+            "--each" => options.each = number()?,
+            "--seed" => options.seed = number()?,
+            "--library-limit" => options.limits.library = Duration::from_millis(number()?),
+            "--lazy-limit" => options.limits.lazy = Duration::from_millis(number()?),
+            "--only" => options.only = value,
+            "--measure" => options.measure = Some(bytes(&value)?),
+            _ => return Err(format!("{flag}: no such flag\n\n{HELP}")),
+        }
+    }
+    Ok(options)
+}
+
+fn bytes(hex: &str) -> Result<Vec<u8>, String> {
+    let byte = |i: usize| hex.get(i..i + 2).and_then(|h| u8::from_str_radix(h, 16).ok()).ok_or("--measure: bad hexadecimal".to_string());
+    (0..hex.len()).step_by(2).map(byte).collect()
+}
+
+fn main() -> ExitCode {
+    let options = match options() {
+        Ok(options) => options,
+        Err(message) => {
+            eprintln!("{message}");
+            return ExitCode::from(2);
+        }
+    };
+    if let Some(file) = &options.measure {
+        measure::inside(file, options.limits);
+    }
+    if !library::LINKED {
+        println!("No library is linked: the column \"library\" shows a stand-in.\n");
+    }
+    let mut agreed = true;
+    if options.only != "growth" && library::has("run") {
+        agreed = runs::table(&options);
+    }
+    if options.only != "runs" {
+        growth::table(options.seed);
+    }
+    ExitCode::from(!agreed as u8)
+}

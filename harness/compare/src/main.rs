@@ -1,0 +1,147 @@
+//! Many case files through the library and through the reference, every reply compared.
+
+#![forbid(unsafe_code)]
+
+mod ask;
+mod buffers;
+mod options;
+mod smaller;
+mod tally;
+
+use std::io::IsTerminal;
+use std::process::ExitCode;
+use std::time::{Duration, Instant};
+
+use generator::chance::Chance;
+use generator::damage::damaged;
+use generator::shapes;
+use generator::text::{hex, readable};
+use reference::casefile::{read, CaseFile, Cell};
+
+use ask::Asking;
+use options::Options;
+use tally::Tally;
+
+fn main() -> ExitCode {
+    let mut options = match Options::read(std::env::args().skip(1)) {
+        Ok(options) => options,
+        Err(message) => {
+            eprintln!("{message}");
+            return ExitCode::from(2);
+        }
+    };
+    if options.fault != "none" && !library::set_fault(&options.fault) {
+        eprintln!("--fault: of {:?}, and only without the library", library::FAULTS);
+        return ExitCode::from(2);
+    }
+    println!(
+        "{}",
+        if library::LINKED { "the library against the reference" } else { "no library linked: a stand-in against the reference" }
+    );
+    let lacking: Vec<&str> = options.questions.iter().copied().filter(|q| !library::has(q)).collect();
+    if !lacking.is_empty() {
+        println!("not asked, as the library lacks them: {}", lacking.join(", "));
+        options.questions.retain(|q| library::has(q));
+    }
+    let start = Instant::now();
+    let mut progress = Progress { last: start, start };
+    let mut tally = Tally::default();
+    for number in options.from..options.from + options.files {
+        if options.trace {
+            eprintln!("file {number}");
+        }
+        let mut chance = Chance::of(options.seed, number);
+        let made = match &options.path {
+            Some(path) => match std::fs::read(path) {
+                Ok(file) => Made { shape: "given", file },
+                Err(why) => {
+                    eprintln!("{path}: {why}");
+                    return ExitCode::from(2);
+                }
+            },
+            None => made(&mut chance, options.damaged),
+        };
+        if options.only {
+            println!("file {number}: {}\n{}", hex(&made.file), readable(&made.file));
+        }
+        tally.note(format!("files of shape {}", made.shape));
+        compare_file(&options, &mut tally, chance, number, &made);
+        progress.show(number + 1 - options.from, options.files, &tally);
+    }
+    tally.print(options.files, options.seed, start.elapsed());
+    if let Some(first) = &tally.first {
+        if let Some(small) = smaller::smaller(&options, first.question, &first.file) {
+            println!("made smaller:\n{small}");
+        }
+    }
+    ExitCode::from((tally.differences > 0) as u8)
+}
+
+/// A file for comparing and the name of its shape.
+pub struct Made {
+    pub shape: &'static str,
+    pub file: Vec<u8>,
+}
+
+/// A generated file, whole or damaged.
+fn made(chance: &mut Chance, damaged_percent: usize) -> Made {
+    if chance.percent(damaged_percent) {
+        return Made { shape: "damaged", file: damaged(chance.clone()) };
+    }
+    let (number, case) = shapes::any(chance.clone());
+    Made { shape: shapes::SHAPES[number], file: case.bytes() }
+}
+
+/// Asks all questions about a file; marks and reducing also about the file with atoms in place of its variables.
+pub fn compare_file(options: &Options, tally: &mut Tally, mut chance: Chance, number: u64, made: &Made) {
+    let (file, shape) = (&made.file[..], made.shape);
+    let before = made.file.clone();
+    let grounded = read(file).ok().filter(|case| case.first_var.is_some()).map(|case| without_vars(case, &mut chance));
+    let mut asking = Asking { options, tally, chance: Chance::new(chance.word()), number, shape, file };
+    if options.asks("equate") {
+        asking.equate();
+    }
+    let right = if options.asks("run") { asking.run() } else { None };
+    if options.asks("check") {
+        asking.check(right);
+    }
+    asking.ground_questions();
+    if let Some(bytes) = grounded {
+        Asking { options, tally, chance, number, shape, file: &bytes }.ground_questions();
+    }
+    if made.file != before {
+        tally.differs(number, "run", &before, "the file itself is touched".into());
+    }
+}
+
+/// The file with an atom in place of each variable.
+fn without_vars(mut case: CaseFile, chance: &mut Chance) -> Vec<u8> {
+    for cell in &mut case.cells {
+        if *cell == Cell::Var {
+            *cell = Cell::Atom(chance.below(3) as u16);
+        }
+    }
+    case.bytes()
+}
+
+struct Progress {
+    start: Instant,
+    last: Instant,
+}
+
+impl Progress {
+    /// A line every two seconds; on a terminal always the same one.
+    fn show(&mut self, done: u64, files: u64, tally: &Tally) {
+        if self.last.elapsed() < Duration::from_secs(2) {
+            return;
+        }
+        self.last = Instant::now();
+        let rate = done as f64 / self.start.elapsed().as_secs_f64();
+        let line = format!("{done} of {files} files, {} replies, {} differences, {rate:.0} files/s", tally.calls, tally.differences);
+        if std::io::stderr().is_terminal() {
+            eprint!("\r{line}   ");
+        } else {
+            eprintln!("{line}");
+        }
+    }
+}

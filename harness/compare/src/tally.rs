@@ -1,0 +1,78 @@
+//! Counts of replies, and the first difference.
+
+use std::collections::BTreeMap;
+use std::time::Duration;
+
+use generator::text::{hex, readable};
+
+/// One difference between the library and the reference.
+pub struct Difference {
+    pub number: u64,
+    pub question: &'static str,
+    pub file: Vec<u8>,
+    pub what: String,
+}
+
+impl std::fmt::Display for Difference {
+    fn fmt(&self, f: &mut std::fmt::Formatter) -> std::fmt::Result {
+        write!(f, "  question {}: {}\n  hex: {}\n{}", self.question, self.what, hex(&self.file), readable(&self.file))
+    }
+}
+
+#[derive(Default)]
+pub struct Tally {
+    replies: BTreeMap<(&'static str, String), u64>,
+    notes: BTreeMap<String, u64>,
+    shapes: BTreeMap<&'static str, [u64; 3]>,
+    pub calls: u64,
+    pub differences: u64,
+    pub first: Option<Difference>,
+    /// The longest run of the library and the number of its file.
+    pub slowest: (Duration, u64),
+}
+
+impl Tally {
+    pub fn reply(&mut self, question: &'static str, kind: impl Into<String>) {
+        self.calls += 1;
+        *self.replies.entry((question, kind.into())).or_default() += 1;
+    }
+
+    pub fn note(&mut self, what: impl Into<String>) {
+        *self.notes.entry(what.into()).or_default() += 1;
+    }
+
+    /// Counts a run of a shape: 0 yes with chosen values, 1 yes with name 0 alone, 2 no.
+    pub fn shape(&mut self, shape: &'static str, reply: usize) {
+        self.shapes.entry(shape).or_default()[reply] += 1;
+    }
+
+    pub fn differs(&mut self, number: u64, question: &'static str, file: &[u8], what: String) {
+        self.differences += 1;
+        self.first.get_or_insert_with(|| Difference { number, question, file: file.to_vec(), what });
+    }
+
+    pub fn print(&self, files: u64, seed: u64, time: Duration) {
+        println!("{files} files, {} replies, seed {seed}, {:.1} s", self.calls, time.as_secs_f64());
+        let mut last = "";
+        for ((question, kind), count) in &self.replies {
+            if *question != last {
+                println!("  {question}");
+                last = question;
+            }
+            println!("    {kind:12} {count}");
+        }
+        for (what, count) in &self.notes {
+            println!("  {what}: {count}");
+        }
+        for (shape, [chosen, plain, no]) in &self.shapes {
+            println!("  runs of shape {shape}: yes with chosen values {chosen}, yes with name 0 alone {plain}, no {no}");
+        }
+        if self.slowest.0 > Duration::ZERO {
+            println!("  slowest run: {:.3} ms, file {}", self.slowest.0.as_secs_f64() * 1e3, self.slowest.1);
+        }
+        println!("differences: {}", self.differences);
+        if let Some(first) = &self.first {
+            println!("first difference, file {} of seed {seed}:\n{first}", first.number);
+        }
+    }
+}

@@ -1,0 +1,26 @@
+//! `compare` says nothing of a right stand-in and sees every wrong one.
+
+use std::process::{Command, Output};
+
+fn compare(args: &[&str]) -> Output {
+    Command::new(env!("CARGO_BIN_EXE_compare")).args(args).output().expect("compare starts")
+}
+
+#[test]
+fn right_is_right_and_wrong_is_wrong() {
+    let right = compare(&["--files", "1500", "--seed", "3"]);
+    assert_eq!(right.status.code(), Some(0), "{}", String::from_utf8_lossy(&right.stdout));
+    if library::LINKED {
+        return;
+    }
+    for fault in &library::FAULTS[1..] {
+        let wrong = compare(&["--files", "400", "--seed", "3", "--fault", fault]);
+        assert_eq!(wrong.status.code(), Some(1), "{fault} is not seen");
+    }
+}
+
+#[test]
+fn flags_not_understood() {
+    assert_eq!(compare(&["--questions", "nothing"]).status.code(), Some(2));
+    assert_eq!(compare(&["--no-such-flag", "1"]).status.code(), Some(2));
+}

@@ -1,0 +1,11 @@
+//! Case files made by rule from a seed: of every shape that is easy to get wrong, and damaged on purpose.
+
+#![forbid(unsafe_code)]
+
+pub mod chance;
+pub mod damage;
+pub mod draft;
+pub mod families;
+pub mod planted;
+pub mod shapes;
+pub mod text;

@@ -1,0 +1,45 @@
+//! The five functions of the library under test, as numbers: a refusal is number * 2^32 + place, "no" and "wrong" are 0,
+//! "right" is 1, and every other reply is 1 + the bytes written.
+
+#[cfg(linked)]
+mod linked;
+#[cfg(linked)]
+pub use linked::*;
+
+#[cfg(not(linked))]
+mod stand_in;
+#[cfg(not(linked))]
+pub use stand_in::*;
+
+/// Whether the library itself is linked, and not the stand-in.
+pub const LINKED: bool = cfg!(linked);
+
+/// Whether a question can be asked: the library linked may still lack some.
+pub fn has(question: &str) -> bool {
+    match question {
+        "equate" => cfg!(any(not(linked), has_equate)),
+        "run" => cfg!(any(not(linked), has_run)),
+        "check" => cfg!(any(not(linked), has_check)),
+        "marks" => cfg!(any(not(linked), has_marks)),
+        "reduce" => cfg!(any(not(linked), has_reduce)),
+        _ => false,
+    }
+}
+
+/// The stand-in's reply where its search for a run stays unfinished, and the reply of a function the library lacks. The
+/// library never gives it.
+pub const UNFINISHED: u64 = u64::MAX;
+
+/// Wrong versions of the stand-in, to show that differences are seen. The library has none.
+pub const FAULTS: [&str; 10] = [
+    "none",
+    "later-learning",
+    "opens-nothing",
+    "drops-known-bodies",
+    "no-occurs-check",
+    "writes-beyond",
+    "place-off",
+    "refuses-all",
+    "writes-nothing",
+    "first-learnt-only",
+];
