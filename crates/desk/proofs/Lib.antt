@@ -1,2 +1,3 @@
 -- The laws of the numbers.
 pub mod EquateLaws
+pub mod MarksLaws

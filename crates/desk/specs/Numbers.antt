@@ -2,6 +2,9 @@
 use mathlib.Core.Path.{_≡_}
 use mathlib.Core.List.{List}
 use Prim.Native.Nat.{ℕ, _+_, _*_, _^_}
+use Rattle.building.specs.declared.Marked.{Marked}
+use Rattle.building.specs.declared.Marked.the-variants as marked
+use Rattle.building.specs.Promise.{MarksPromise}
 use Rattle.equating.specs.declared.Equated.{Equated}
 use Rattle.equating.specs.declared.Equated.the-variants as equated
 use Rattle.equating.specs.Promise.{EquatePromise}
@@ -19,3 +22,12 @@ equateNumber (equated.Listed n) = n + 1
 -- The number r is that of a reply that keeps the promise of equating.
 abbrev pub EquateTold : List ℕ → ℕ → ℕ → List ℕ → ℕ → List ℕ → Type 0
 EquateTold file a b before r after = (reply : Equated) × EquatePromise file a b before reply after × (r ≡ equateNumber reply)
+
+-- Build marks.
+abbrev pub marksNumber : Marked → ℕ
+marksNumber (marked.Refused number place) = refusalNumber number place
+marksNumber (marked.Marks n) = n + 1
+
+-- The number r is that of a reply that keeps the promise of build marks.
+abbrev pub MarksTold : List ℕ → List ℕ → ℕ → List ℕ → Type 0
+MarksTold file before r after = (reply : Marked) × MarksPromise file before reply after × (r ≡ marksNumber reply)
