@@ -21,7 +21,7 @@ enum Found {
 }
 
 // The cells that stand for the classes of a cell's parts.
-struct Ends {
+pub struct Ends {
     pub left: usize,
     pub right: usize,
 }
@@ -111,7 +111,7 @@ fn gives(kind: u8, right: u8) -> bool
 }
 
 // A byte as a cell's number.
-fn cell(x: u8) -> usize
+pub fn cell(x: u8) -> usize
     ensures { λ r. ⌜ r ≡ x ⌝ }
 {
     x as usize
@@ -126,7 +126,7 @@ pub fn class_of<'a>(rep: &'a [u8; 129], c: usize) -> usize
 }
 
 // The cells that stand for the classes of the parts of c.
-fn part_classes<'a>(kind: u8, first: u8, second: u8, rep: &'a [u8; 129], c: usize) -> Ends
+pub fn part_classes<'a>(kind: u8, first: u8, second: u8, rep: &'a [u8; 129], c: usize) -> Ends
     requires { ⌜ leftPart (cellAt kind first second) c ≤ 128 ⌝ }
     requires { ⌜ rightPart (cellAt kind first second) c ≤ 128 ⌝ }
     ensures { λ r. ⌜ r .left ≡ classAt (now (rep .entry)) (leftPart (cellAt kind first second) c) ⌝ }

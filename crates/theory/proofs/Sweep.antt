@@ -105,10 +105,10 @@ module _ (T : Table) (rep : ℕ → ℕ) (ev : Run) (p : ℕ) (idem : (c : ℕ) 
         bares = bares;
       }
 
-  -- A set that holds the cells to be made before p, and is closed downwards along H, holds the cells over free ones.
-  pub over-least : (H W : ℕ → Type 0) → ((c : ℕ) → Holds T rep ev p c → H (rep c)) → ((q t : ℕ) → q < p → ev q ≡ some (MK t) → W (rep t)) →
+  -- A set that holds the cells of H to be made before p, and is closed downwards along H, holds the cells over free ones.
+  pub over-least : (H W : ℕ → Type 0) → ((c : ℕ) → Holds T rep ev p c → H (rep c)) → ((q t : ℕ) → q < p → ev q ≡ some (MK t) → H (rep t) → W (rep t)) →
       ((c d : ℕ) → rep c ≡ c → W c → Part (T c) d → H (rep d) → W (rep d)) → (c : ℕ) → Over T rep ev p c → W (rep c)
-  over-least H W holds makes parts x (Over.makes lt e) = makes _ _ lt e
+  over-least H W holds makes parts x (Over.makes lt e h) = makes _ _ lt e (holds _ h)
   over-least H W holds makes parts x (Over.parts {c = c} {d = d} o q h) = parts (rep c) d (idem c) (over-least H W holds makes parts c o) q (holds d h)
 
 -- The sets of Hopeless.antt need only be closed: S may be seen, B may be built, H holds a free class that may be seen, W is over one.

@@ -102,4 +102,4 @@ module _ (T : Table) (rep : ℕ → ℕ) (ev : Run) (p : ℕ) (m : ℕ → Messa
           opens q avail c k d o h z = Mark.opens o h (elim (node .marked k) [ inl y ↦ y | inr n ↦ needed-built q avail k (Needed.keys o h n) z ])
 
           bind : (q : ℕ) → q < p → Avail T rep ev Sees m q → (y t : ℕ) → Sees y → T (rep y) ≡ VA → ev q ≡ some (MK t) → Occ T rep y t → Z q (m t) → Z q (m y)
-          bind q lt avail y t h v j o z = over-Z q avail y h v (Over.makes lt j) z o
+          bind q lt avail y t h v j o z = over-Z q avail y h v (Over.makes lt j (occ-holds T rep v h o)) z o

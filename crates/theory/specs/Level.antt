@@ -56,9 +56,9 @@ module _ (T : Table) (rep : ℕ → ℕ) (ev : Run) (p : ℕ) where
     here : {c : ℕ} → T (rep c) ≡ VA → Mark seen c → Holds c
     up : {c d : ℕ} → Part (T (rep c)) d → Holds d → Holds c
 
-  -- `Over c`: c is to be made before p, or stands in such a cell, on the way to a free class that is seen.
+  -- `Over c`: c is to be made before p, or stands in such a cell, and holds a free class that is seen.
   pub data Over : ℕ → Type 0 where
-    makes : {q t : ℕ} → q < p → ev q ≡ some (MK t) → Over t
+    makes : {q t : ℕ} → q < p → ev q ≡ some (MK t) → Holds t → Over t
     parts : {c d : ℕ} → Over c → Part (T (rep c)) d → Holds d → Over d
 
   -- The cells that may have to be made equal to a bare one.

@@ -1,0 +1,6 @@
+pub mod KinLaws
+pub mod ListLaws
+pub mod PairLaws
+pub mod PlanLaws
+pub mod ChildLaws
+pub mod SearchLaws

@@ -1,0 +1,4 @@
+pub mod Listing
+pub mod Pairs
+pub mod Plans
+pub mod Searches

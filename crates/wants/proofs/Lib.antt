@@ -1,0 +1,4 @@
+pub mod Rowing
+pub mod StartLaws
+pub mod SpreadLaws
+pub mod SetLaws

@@ -1,0 +1,29 @@
+-- The sets of one step of the search, in rows of marks. Each row may have more than its set.
+use mathlib.Core.Path.{_≡_}
+use mathlib.Core.List.{List}
+use mathlib.Core.Option.{some}
+use Prim.Native.Nat.{ℕ}
+use Rattle.model.specs.Case.{MK, Table, Run}
+use Rattle.model.specs.Stored.{runAt}
+use Rattle.theory.specs.Cells.{classAt, On}
+use Rattle.theory.specs.Level.{Needed, Holds, Over, Wanted}
+use Rattle.wants.specs.Starts.{Exact}
+
+-- The row r holds the needed cells of each position at which the rows are the marks and only the cell `goal` may be to be made.
+abbrev pub HoldsNeeded : Table → List ℕ → List ℕ → List ℕ → ℕ → List ℕ → Type 0
+HoldsNeeded T rep seens builts goal r = (ev : Run) (p : ℕ) → Exact T rep ev p seens builts → ((t : ℕ) → ev p ≡ some (MK t) → t ≡ goal) →
+    (c : ℕ) → Needed T (classAt rep) ev p c → On r (classAt rep c)
+
+-- The row r holds the cells that hold a free class that is seen.
+abbrev pub HoldsHolds : Table → List ℕ → List ℕ → List ℕ → Type 0
+HoldsHolds T rep seens r = (ev : Run) (p : ℕ) (builts : List ℕ) → Exact T rep ev p seens builts → (c : ℕ) → Holds T (classAt rep) ev p c → On r (classAt rep c)
+
+-- The row r holds the cells over a free class that is seen, if the row `held` holds those that hold one.
+abbrev pub HoldsOver : Table → List ℕ → List ℕ → List ℕ → List ℕ → ℕ → List ℕ → Type 0
+HoldsOver T rep held kinds cells p r = (count : ℕ) → ((c : ℕ) → Holds T (classAt rep) (runAt count kinds cells) p c → On held (classAt rep c)) →
+    (c : ℕ) → Over T (classAt rep) (runAt count kinds cells) p c → On r (classAt rep c)
+
+-- The row r holds the wanted cells at position p.
+abbrev pub HoldsWanted : Table → List ℕ → List ℕ → List ℕ → List ℕ → List ℕ → ℕ → List ℕ → Type 0
+HoldsWanted T rep seens builts kinds cells p r = (count : ℕ) → Exact T rep (runAt count kinds cells) p seens builts →
+    (c : ℕ) → Wanted T (classAt rep) (runAt count kinds cells) p c → On r (classAt rep c)

@@ -1,0 +1,95 @@
+-- The marks that the sets of a step start from, as loops compute them from the marks of what is seen and built at a position of the run.
+-- Exact: rows that are the marks at a position; EndsAt: the classes of parts; Wider: more marks;
+-- BareAt, BareTo, HoldsBare: the bare cells; LacksKey, KeyTold, Keyed: keys; FreeSeen: free cells; CellsBelow, Due: what is to be made; Joint: two rows.
+use mathlib.Core.Path.{_≡_}
+use mathlib.Core.Logic.{_↔_}
+use mathlib.Core.List.{List}
+use Prim.Native.Nat.{ℕ, _≤_, _<_}
+use lib.ListN.{length, getD}
+use Rattle.model.specs.Case.{PR, SE, Table, Run, Part}
+use Rattle.theory.specs.Cells.{Makes, classAt, On}
+use Rattle.theory.specs.Level.{Mark, seen, built, Bare}
+use Rattle.knowledge.specs.Knowledge.{Marked}
+use Rattle.knowledge.specs.Sweeps.{leftClass, rightClass}
+use Rattle.wants.specs.declared.starts.Pick.{Pick}
+use Rattle.wants.specs.declared.starts.Pick.the-variants as pick
+
+-- The rows are the marks of what is seen and of what is built at position p.
+pub record Exact (T : Table) (rep : List ℕ) (ev : Run) (p : ℕ) (seens builts : List ℕ) : Type 0 where
+  pub seen : (c : ℕ) → On seens (classAt rep c) ↔ Mark T (classAt rep) ev p seen c
+  pub built : (c : ℕ) → On builts (classAt rep c) ↔ Mark T (classAt rep) ev p built c
+  pub seen-marked : Marked rep seens
+  pub built-marked : Marked rep builts
+
+-- The cells l and r stand for the classes of the parts of c.
+pub record EndsAt (T : Table) (rep : List ℕ) (c l r : ℕ) : Type 0 where
+  pub left : l ≡ leftClass T rep c
+  pub right : r ≡ rightClass T rep c
+  pub left-low : l ≤ 128
+  pub right-low : r ≤ 128
+
+-- A row of marks on cells that stand for their class, which has the marks of m.
+pub record Wider (rep m r : List ℕ) : Type 0 where
+  pub long : length r ≡ 129
+  pub marked : Marked rep r
+  pub kept : (c : ℕ) → On m c → On r c
+
+-- The cell c is seen, is no pair, has parts, and is not made of built cells.
+pub record BareAt (T : Table) (rep seens builts : List ℕ) (c : ℕ) : Type 0 where
+  pub whole : On seens c
+  pub shut : (l r : ℕ) → T c ≡ PR l r → ⊥
+  pub part : (x : ℕ) × Part (T c) x
+  pub lacks : (a b : ℕ) → Makes (T c) a b → On builts (classAt rep a) → On builts (classAt rep b) → ⊥
+
+-- The row r has the bare cells below `upto`.
+pub record BareTo (T : Table) (rep seens builts r : List ℕ) (upto : ℕ) : Type 0 where
+  pub long : length r ≡ 129
+  pub bares : (c : ℕ) → c < upto → BareAt T rep seens builts c → On r c
+
+-- The row r holds the bare cells of each position at which the rows are the marks.
+abbrev pub HoldsBare : Table → List ℕ → List ℕ → List ℕ → List ℕ → Type 0
+HoldsBare T rep seens builts r = (ev : Run) (p : ℕ) → Exact T rep ev p seens builts → (d : ℕ) → Bare T (classAt rep) ev p d → On r (classAt rep d)
+
+-- The cell c is a seal that is seen, and its key is not built.
+pub record LacksKey (T : Table) (rep seens builts : List ℕ) (c : ℕ) : Type 0 where
+  pub whole : On seens c
+  pub sealed : (b : ℕ) × (k : ℕ) × (T c ≡ SE b k)
+  pub lacks : On builts (rightClass T rep c) → ⊥
+
+-- What is found at c: the class of its key, or that it is no such seal.
+pub data KeyTold (T : Table) (rep seens builts : List ℕ) (c : ℕ) : Pick → Type 0 where
+  key : KeyTold T rep seens builts c (pick.Mark (rightClass T rep c))
+  nothing : (LacksKey T rep seens builts c → ⊥) → KeyTold T rep seens builts c pick.Nothing
+
+-- The row r has the marks of m, and the keys of such seals below `upto`.
+pub record Keyed (T : Table) (rep seens builts m r : List ℕ) (upto : ℕ) : Type 0 where
+  pub wider : Wider rep m r
+  pub keys : (c : ℕ) → c < upto → LacksKey T rep seens builts c → On r (rightClass T rep c)
+
+-- The row r has the variables below `upto` that are seen.
+pub record FreeSeen (kinds rep seens r : List ℕ) (upto : ℕ) : Type 0 where
+  pub long : length r ≡ 129
+  pub marked : Marked rep r
+  pub free : (c : ℕ) → c < upto → getD kinds c 0 ≡ 1 → On seens c → On r c
+
+-- The cells of the events before p are below n.
+pub record CellsBelow (n : ℕ) (cells : List ℕ) (p : ℕ) : Type 0 where
+  pub few : p ≤ 128
+  pub below : (q : ℕ) → q < p → getD cells q 0 < n
+
+-- What is found at an event: the class of its cell, if it is to be made and marked in the row `held`.
+pub data DueTold (rep held : List ℕ) (kind x : ℕ) : Pick → Type 0 where
+  due : DueTold rep held kind x (pick.Mark (classAt rep x))
+  nothing : (kind ≡ 0 → On held (classAt rep x) → ⊥) → DueTold rep held kind x pick.Nothing
+
+-- The row r has the classes of the cells to be made before p that are marked in the row `held`.
+pub record Due (rep held kinds cells r : List ℕ) (p : ℕ) : Type 0 where
+  pub long : length r ≡ 129
+  pub marked : Marked rep r
+  pub makes : (q : ℕ) → q < p → getD kinds q 0 ≡ 0 → On held (classAt rep (getD cells q 0)) → On r (classAt rep (getD cells q 0))
+
+-- The row r has the marks of a, and those of b below `upto`.
+pub record Joint (a b r : List ℕ) (upto : ℕ) : Type 0 where
+  pub long : length r ≡ 129
+  pub left : (c : ℕ) → On a c → On r c
+  pub right : (c : ℕ) → c < upto → On b c → On r c

@@ -1,0 +1,179 @@
+// Marks that spread over the classes, down to parts or up from them, until nothing changes.
+use super::starts::ends;
+use knowledge::Ends;
+use knowledge::class_of;
+ghost use Prim.Native.Nat.{_≤_, _<_};
+ghost use Rattle.model.specs.Stored.{tableAt};
+ghost use Rattle.theory.specs.Cells.{Rows};
+ghost use Rattle.knowledge.specs.Knowledge.{ClassRow, Marked};
+ghost use Rattle.knowledge.specs.Sweeps.{Decides};
+ghost use Rattle.wants.specs.Spread.{Reaches, Lowering, Lowered, Raises, Raising, Raised};
+
+pub struct Swept {
+    pub marks: [u8; 129],
+    pub changed: bool,
+}
+
+// Is the class d, which has the byte `flag` in the row `only`, to be marked as part of c?
+pub fn reaches<'a>(marks: &'a [u8; 129], only: &'a [u8; 129], flag: u8, c: usize, d: usize) -> bool
+    requires { ⌜ c ≤ 128 ⌝ }
+    requires { ⌜ d ≤ 128 ⌝ }
+    ensures { λ r. ⌜ Decides r (Reaches (now (marks .entry)) (now (only .entry)) flag c d) ⌝ }
+{
+    if marks[c] != 1 {
+        return false;
+    }
+    if only[d] != flag {
+        return false;
+    }
+    marks[d] != 1
+}
+
+// One sweep downwards: the parts of marked cells are marked, as far as they have `flag` in `only`.
+pub fn lower<'a>(
+    kind: &'a [u8; 128],
+    first: &'a [u8; 128],
+    second: &'a [u8; 128],
+    n: usize,
+    rep: &'a [u8; 129],
+    only: &'a [u8; 129],
+    flag: u8,
+    start: [u8; 129],
+) -> Swept
+    requires { ⌜ Rows n (now kind) (now first) (now second) ⌝ }
+    requires { ⌜ ClassRow n (now rep) ⌝ }
+    requires { ⌜ Marked (now rep) start ⌝ }
+    ensures { λ r. ⌜ Lowering (tableAt (now (kind .entry)) (now (first .entry)) (now (second .entry))) (now (rep .entry)) (now (only .entry)) flag start (r .marks) (r .changed) n 0 ⌝ }
+{
+    let mut m = start;
+    let mut changed = false;
+    let mut c = n;
+    while 0 < c {
+        c -= 1;
+        let e = ends(kind, first, second, n, rep, c);
+        let a = e.left;
+        let b = e.right;
+        if reaches(&m, only, flag, c, a) {
+            m[a] = 1;
+            changed = true;
+        }
+        if reaches(&m, only, flag, c, b) {
+            m[b] = 1;
+            changed = true;
+        }
+    }
+    Swept {
+        marks: m,
+        changed: changed,
+    }
+}
+
+// The marks with the parts of marked cells, as far as they have `flag` in `only`.
+pub fn lowered<'a>(
+    kind: &'a [u8; 128],
+    first: &'a [u8; 128],
+    second: &'a [u8; 128],
+    n: usize,
+    rep: &'a [u8; 129],
+    only: &'a [u8; 129],
+    flag: u8,
+    start: [u8; 129],
+) -> [u8; 129]
+    requires { ⌜ Rows n (now kind) (now first) (now second) ⌝ }
+    requires { ⌜ ClassRow n (now rep) ⌝ }
+    requires { ⌜ Marked (now rep) start ⌝ }
+    ensures { λ r. ⌜ Lowered (tableAt (now (kind .entry)) (now (first .entry)) (now (second .entry))) (now (rep .entry)) (now (only .entry)) flag start r ⌝ }
+{
+    let mut m = start;
+    loop {
+        let s = lower(kind, first, second, n, rep, only, flag, m);
+        m = s.marks;
+        if !s.changed {
+            return m;
+        }
+    }
+}
+
+// Is c to be marked, as a cell with a marked part?
+pub fn raises<'a>(
+    kind: &'a [u8; 128],
+    first: &'a [u8; 128],
+    second: &'a [u8; 128],
+    n: usize,
+    rep: &'a [u8; 129],
+    marks: &'a [u8; 129],
+    c: usize,
+) -> bool
+    requires { ⌜ Rows n (now kind) (now first) (now second) ⌝ }
+    requires { ⌜ ClassRow n (now rep) ⌝ }
+    requires { ⌜ c < n ⌝ }
+    ensures { λ r. ⌜ Decides r (Raises (tableAt (now (kind .entry)) (now (first .entry)) (now (second .entry))) (now (rep .entry)) (now (marks .entry)) c) ⌝ }
+{
+    if class_of(rep, c) != c {
+        return false;
+    }
+    if marks[c] == 1 {
+        return false;
+    }
+    let e = ends(kind, first, second, n, rep, c);
+    let a = e.left;
+    let b = e.right;
+    if marks[a] == 1 {
+        return true;
+    }
+    marks[b] == 1
+}
+
+// One sweep upwards: cells with a marked part are marked.
+pub fn raise<'a>(
+    kind: &'a [u8; 128],
+    first: &'a [u8; 128],
+    second: &'a [u8; 128],
+    n: usize,
+    rep: &'a [u8; 129],
+    start: [u8; 129],
+) -> Swept
+    requires { ⌜ Rows n (now kind) (now first) (now second) ⌝ }
+    requires { ⌜ ClassRow n (now rep) ⌝ }
+    requires { ⌜ Marked (now rep) start ⌝ }
+    ensures { λ r. ⌜ Raising (tableAt (now (kind .entry)) (now (first .entry)) (now (second .entry))) (now (rep .entry)) start (r .marks) (r .changed) n ⌝ }
+{
+    let mut m = start;
+    let mut changed = false;
+    let mut c = 0;
+    while c < n {
+        if raises(kind, first, second, n, rep, &m, c) {
+            m[c] = 1;
+            changed = true;
+        }
+        c += 1;
+    }
+    Swept {
+        marks: m,
+        changed: changed,
+    }
+}
+
+// The marks with the cells that hold a marked one.
+pub fn raised<'a>(
+    kind: &'a [u8; 128],
+    first: &'a [u8; 128],
+    second: &'a [u8; 128],
+    n: usize,
+    rep: &'a [u8; 129],
+    start: [u8; 129],
+) -> [u8; 129]
+    requires { ⌜ Rows n (now kind) (now first) (now second) ⌝ }
+    requires { ⌜ ClassRow n (now rep) ⌝ }
+    requires { ⌜ Marked (now rep) start ⌝ }
+    ensures { λ r. ⌜ Raised (tableAt (now (kind .entry)) (now (first .entry)) (now (second .entry))) (now (rep .entry)) start r ⌝ }
+{
+    let mut m = start;
+    loop {
+        let s = raise(kind, first, second, n, rep, m);
+        m = s.marks;
+        if !s.changed {
+            return m;
+        }
+    }
+}
