@@ -9,3 +9,4 @@ pub mod SolvedLaws
 pub mod SettleLaws
 pub mod PeelLaws
 pub mod UnifyLaws
+pub mod UpwardLaws

@@ -3,3 +3,4 @@ pub mod Differ
 pub mod Twins
 pub mod Settle
 pub mod Peel
+pub mod Upward

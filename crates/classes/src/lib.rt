@@ -1,4 +1,6 @@
 // Classes of cells that are to show equal messages: each cell's representative in an array by value.
+pub mod upward;
+
 ghost use mathlib.Core.Path.{_≡_};
 ghost use mathlib.Core.Bool.{true, false};
 ghost use Prim.Native.Nat.{_+_, _<_, _≤_};

@@ -46,11 +46,11 @@ module _ (P : ℕ → Type 0) (dec : (c : ℕ) → P c ⊎ (P c → ⊥)) where
         )
       ]
 
-inside-part : {x y z : Message} → Inside x y → Held z x → Inside z y
+pub inside-part : {x y z : Message} → Inside x y → Held z x → Inside z y
 inside-part whole h = deeper h whole
 inside-part (deeper k i) h = deeper k (inside-part i h)
 
-held-look : (v : Message) (m : ℕ → Message) (k : Cell) {y : Message} → (k ≡ VA → ⊥) → Held y (look v m k) → (d : ℕ) × Part k d × (m d ≡ y)
+pub held-look : (v : Message) (m : ℕ → Message) (k : Cell) {y : Message} → (k ≡ VA → ⊥) → Held y (look v m k) → (d : ℕ) × Part k d × (m d ≡ y)
 held-look v m (AT n) s h = elim h [ ]
 held-look v m VA s h = absurd (s refl)
 held-look v m (ONE g a) s Held.arg = (a, in-arg, refl)

@@ -1,0 +1,213 @@
+-- Joins of cells that are alike keep solved classes solved, and the messages that satisfy them; where none is left, cells that are alike are of one class.
+use mathlib.Core.Path.{_≡_, refl, sym, _∙_, ap, subst}
+use mathlib.Core.Bool.{Bool, true, false, cond, true≢false, false≢true}
+use mathlib.Core.List.{List}
+use mathlib.Core.Logic.{_↔_, inl, inr}
+use Prim.Native.Nat.{ℕ, _+_, _≤_, _<_}
+use native.Mathlib.Omega.{arith}
+use native.Mathlib.Decide.{decLt}
+use lib.Dec.{eqb}
+use borrow.Author.Count.{below-more}
+use borrow.Author.Tests.{eq-eqb, ne-eqb}
+use Rattle.model.specs.Message.{Message, atom}
+use Rattle.model.specs.Case.{Cell, AT, VA, Table, Reads}
+use Rattle.model.specs.Stored.{tableAt}
+use Rattle.model.proofs.Finite.{eq?}
+use Rattle.model.proofs.Steps.{size}
+use Rattle.theory.specs.Cells.{Rows, classAt}
+use Rattle.theory.specs.Classes.{Alike, atoms, Closed, Sat}
+use Rattle.theory.proofs.Classes.{alike-parts, alike-sym, alike-solid, alike-look, reads-ranked}
+use Rattle.theory.proofs.Level.{class-reads}
+use Rattle.classes.specs.Kept.{Kept, classCount, Finite, Solved, Joined}
+use Rattle.classes.specs.Twins.{Twin}
+use Rattle.classes.specs.declared.upward.Lifted.{Lifted}
+use Rattle.classes.specs.Upward.{Climbs, Met, Meets, Lifts}
+use Rattle.classes.proofs.RowLaws.{rows-beyond}
+use Rattle.classes.proofs.TwinLaws.{alike-trans, alike-self}
+use Rattle.classes.proofs.SolvedLaws.{solved-met}
+
+-- ---- one join of cells that are alike
+
+module _ (n : ℕ) (T : Table) (rep out : List ℕ) (a b : ℕ) (w : Solved n T rep) (same : Alike (classAt rep) (T a) (T b)) (j : Joined n T rep a b out) where
+  abbrev cls : ℕ → ℕ
+  cls = classAt rep
+
+  abbrev new : ℕ → ℕ
+  new = classAt out
+
+  -- All messages that satisfy the classes make them equal.
+  equal : (m : ℕ → Message) → Reads T m m → Sat cls m → m a ≡ m b
+  equal m mr s = mr a ∙ alike-look (m a) (m b) (alike-parts (λ d d′ q q′ e. s d ∙ ap m e ∙ sym (s d′)) same) ∙ sym (mr b)
+
+  -- What was of one class is of one class.
+  coarser : (c : ℕ) → new c ≡ new (cls c)
+  coarser c = let z : atom (new c) ≡ atom (new (cls c)) = j .sat (λ d. atom (new d)) .0 (λ d. ap atom (sym (j .kept .reps .idem d))) .0 c in cc
+
+  -- The class x, or that of a where x is the class of b.
+  abbrev put : ℕ → ℕ
+  put x = cond (eqb x (cls b)) (cls a) x
+
+  put-yes : (x : ℕ) → x ≡ cls b → put x ≡ cls a
+  put-yes x e = rw (eq-eqb x (cls b) e)
+
+  put-no : (x : ℕ) → (x ≡ cls b → ⊥) → put x ≡ x
+  put-no x ne = rw (ne-eqb x (cls b) ne)
+
+  put-both : put (cls a) ≡ put (cls b)
+  put-both = elim (eq? (cls a) (cls b)) [ inl e ↦ ap put e | inr ne ↦ put-no (cls a) ne ∙ sym (put-yes (cls b) refl) ]
+
+  put-new : (c : ℕ) → put (cls c) ≡ put (cls (new c))
+  put-new c =
+      let z : atom (put (cls c)) ≡ atom (put (cls (new c))) =
+      j .sat (λ d. atom (put (cls d))) .1 (λ d. ap (λ x. atom (put x)) (sym (w .kept .reps .idem d)), ap atom put-both) c in
+      cc
+
+  -- Cells are alike if those are that stand for their classes.
+  near : (c d : ℕ) → (T c ≡ VA → ⊥) → (T d ≡ VA → ⊥) → Alike cls (T (cls c)) (T (cls d)) → Alike cls (T c) (T d)
+  near c d sc sd h = alike-trans (w .closed c sc) (alike-trans h (alike-sym (w .closed d sd)))
+
+  both : Alike cls (T (cls a)) (T (cls b))
+  both = alike-trans (alike-sym (w .closed a (alike-solid (alike-sym same)))) (alike-trans same (w .closed b (alike-solid same)))
+
+  at : (x y : ℕ) → (T x ≡ VA → ⊥) → put x ≡ put y → Alike cls (T x) (T y)
+  at x y s e = elim (eq? x (cls b)) [
+    | inl i ↦ elim (eq? y (cls b)) [
+      | inl k ↦ subst (λ z. Alike cls (T x) (T z)) (i ∙ sym k) (alike-self (T x) s)
+      | inr ne ↦
+          let k : cls a ≡ y = sym (put-yes x i) ∙ e ∙ put-no y ne in
+          subst (λ z. Alike cls (T x) (T z)) k (subst (λ z. Alike cls (T z) (T (cls a))) (sym i) (alike-sym both))
+    ]
+    | inr ne ↦ elim (eq? y (cls b)) [
+      | inl k ↦
+          let i : x ≡ cls a = sym (put-no x ne) ∙ e ∙ put-yes y k in
+          subst (λ z. Alike cls (T x) (T z)) (sym k) (subst (λ z. Alike cls (T z) (T (cls b))) (sym i) both)
+      | inr ny ↦ subst (λ z. Alike cls (T x) (T z)) (sym (put-no x ne) ∙ e ∙ put-no y ny) (alike-self (T x) s)
+    ]
+  ]
+
+  closed : Closed T new
+  closed c s =
+      alike-parts (λ d d′ q q′ e. coarser d ∙ ap new e ∙ sym (coarser d′))
+      (near c (new c) s (j .kept .reps .solid c s) (at (cls c) (cls (new c)) (w .kept .reps .solid c s) (put-new c)))
+
+  finite : Finite T new
+  finite =
+      let (τ, g, mr, s) = solved-met n T rep w (λ y. atom 0) in
+      (λ c. size (τ c), reads-ranked (λ c. T (new c)) τ τ (class-reads T new τ mr (j .sat τ .1 (s, equal τ mr s))))
+
+  pub climbs-join : (classAt rep a ≡ classAt rep b → ⊥) → Climbs n T rep out true
+  climbs-join ne =
+      record {
+        solved = record { kept = j .kept; closed = closed; finite = finite };
+        sat = λ m mr. (λ s. j .sat m .1 (s, equal m mr s), λ s. j .sat m .0 s .0);
+        most = j .most;
+        fewer = λ _. j .fewer ne;
+        still = λ e. absurd (true≢false e);
+      }
+
+pub climbs-none : (n : ℕ) (T : Table) (rep : List ℕ) → Solved n T rep → Climbs n T rep rep false
+climbs-none n T rep w = record { solved = w; sat = λ m mr. (λ s. s, λ s. s); most = omega arith; fewer = λ e. absurd (false≢true e); still = λ _. refl }
+
+-- The cell c and its lowest twin t: of two classes and joined, or of one.
+module _ (n : ℕ) (T : Table) (rep : List ℕ) (w : Solved n T rep) (c t : ℕ) (tw : Twin T (classAt rep) c t) where
+  pub twin-alike : (classAt rep t ≡ classAt rep c → ⊥) → Alike (classAt rep) (T t) (T c)
+  twin-alike ne = alike-sym (tw .hit (elim (eq? t c) [ inl e ↦ absurd (ne (ap (classAt rep) e)) | inr ne ↦ omega (arith, tw .low) ]))
+
+  pub meets-join : (out : List ℕ) → (classAt rep t ≡ classAt rep c → ⊥) → Joined n T rep t c out → Meets n T rep c (record { changed = true; rep = out })
+  meets-join out ne j = record { climbs = climbs-join n T rep out t c w (twin-alike ne) j ne; met = λ e. absurd (true≢false e) }
+
+  pub meets-same : classAt rep t ≡ classAt rep c → Meets n T rep c (record { changed = false; rep = rep })
+  meets-same e = record { climbs = climbs-none n T rep w; met = λ _. (t, tw, e) }
+
+-- ---- sweeps
+
+module _ (n : ℕ) (T : Table) (rep : List ℕ) where
+  pub lifts-none : Solved n T rep → Lifts n T rep 0 rep false
+  lifts-none w = record { climbs = climbs-none n T rep w; met = λ _ c h. absurd (omega arith) }
+
+  module _ (out next : List ℕ) (old new : Bool) (v : Climbs n T rep out old) (w : Climbs n T out next new) where
+    sat-trans : (m : ℕ → Message) → Reads T m m → Sat (classAt rep) m ↔ Sat (classAt next) m
+    sat-trans m mr = (λ s. w .sat m mr .0 (v .sat m mr .0 s), λ s. v .sat m mr .1 (w .sat m mr .1 s))
+
+    climbs-more : new ≡ true → Climbs n T rep next true
+    climbs-more e =
+        record {
+          solved = w .solved;
+          sat = sat-trans;
+          most = omega (arith, v .most, w .most);
+          fewer = λ _. omega (arith, v .most, w .fewer e);
+          still = λ i. absurd (true≢false i);
+        }
+
+    climbs-stay : new ≡ false → Climbs n T rep next old
+    climbs-stay e = subst (λ (l : List ℕ). Climbs n T rep l old) (sym (w .still e)) v
+
+  module _ (out : List ℕ) (old : Bool) (c : ℕ) (v : Lifts n T rep c out old) (r : Lifted) (w : Meets n T out c r) where
+    pub lifts-more : r .changed ≡ true → Lifts n T rep (c + 1) (r .rep) true
+    lifts-more e = record { climbs = climbs-more out (r .rep) old (r .changed) (v .climbs) (w .climbs) e; met = λ i. absurd (true≢false i) }
+
+    pub lifts-stay : r .changed ≡ false → Lifts n T rep (c + 1) (r .rep) old
+    lifts-stay e =
+        record {
+          climbs = climbs-stay out (r .rep) old (r .changed) (v .climbs) (w .climbs) e;
+          met = λ i. below-more (Met T (classAt rep)) c (v .met i) (subst (λ (l : List ℕ). Met T (classAt l) c) (v .climbs .still i) (w .met e));
+        }
+
+-- The classes out after some sweeps over rep.
+pub record Rise (n : ℕ) (T : Table) (rep out : List ℕ) : Type 0 where
+  pub solved : Solved n T out
+  pub sat : (m : ℕ → Message) → Reads T m m → Sat (classAt rep) m ↔ Sat (classAt out) m
+  pub most : classCount out ≤ classCount rep
+
+pub rise-none : (n : ℕ) (T : Table) (rep : List ℕ) → Solved n T rep → Rise n T rep rep
+rise-none n T rep w = record { solved = w; sat = λ m mr. (λ s. s, λ s. s); most = omega arith }
+
+pub rise-more : (n : ℕ) (T : Table) (rep out next : List ℕ) (changed : Bool) → Rise n T rep out → Climbs n T out next changed → Rise n T rep next
+rise-more n T rep out next changed v w =
+    record {
+      solved = w .solved;
+      sat = λ m mr. (λ s. w .sat m mr .0 (v .sat m mr .0 s), λ s. v .sat m mr .1 (w .sat m mr .1 s));
+      most = omega (arith, v .most, w .most);
+    }
+
+-- ---- nothing is left to join
+
+name-alike : {f : ℕ → ℕ} {p : ℕ} {k : Cell} → Alike f (AT p) k → k ≡ AT p
+name-alike atoms = refl
+
+module _ (n : ℕ) (kinds firsts seconds : List ℕ) (w : Rows n kinds firsts seconds) (rep : List ℕ) (k : Kept n (tableAt kinds firsts seconds) rep)
+    (met : (c : ℕ) → c < n → Met (tableAt kinds firsts seconds) (classAt rep) c) where
+  abbrev S : Table
+  S = tableAt kinds firsts seconds
+
+  abbrev mine : ℕ → ℕ
+  mine = classAt rep
+
+  lowest : (c t : ℕ) → (S c ≡ VA → ⊥) → Twin S mine c t → Alike mine (S c) (S t)
+  lowest c t s tw = elim (eq? t c) [ inl e ↦ subst (λ z. Alike mine (S c) (S z)) (sym e) (alike-self (S c) s) | inr ne ↦ tw .hit (omega (arith, tw .low)) ]
+
+  up-cells : (c d : ℕ) → c < n → d < n → Alike mine (S c) (S d) → mine c ≡ mine d
+  up-cells c d hc hd h =
+      let (t, tw, e) = met c hc in
+      let (u, uw, i) = met d hd in
+      let ct = lowest c t (alike-solid (alike-sym h)) tw in
+      let du = lowest d u (alike-solid h) uw in
+      elim (decLt t u) [
+        | yes l ↦ absurd (uw .miss t l (alike-trans (alike-sym h) ct))
+        | no a ↦ elim (decLt u t) [
+          | yes l ↦ absurd (tw .miss u l (alike-trans h du))
+          | no b ↦ (let z : t ≡ u = omega arith in sym e ∙ ap mine z ∙ i)
+        ]
+      ]
+
+  up-name : (c d : ℕ) → S c ≡ AT 0 → Alike mine (S c) (S d) → mine c ≡ mine d
+  up-name c d e h = k .names c d 0 e (name-alike (subst (λ z. Alike mine z (S d)) e h))
+
+  pub met-up : (c d : ℕ) → Alike (classAt rep) (S c) (S d) → classAt rep c ≡ classAt rep d
+  met-up c d h = elim (decLt c n) [
+    | no a ↦ up-name c d (rows-beyond n kinds firsts seconds w c (omega arith)) h
+    | yes a ↦ elim (decLt d n) [
+      | no b ↦ sym (up-name d c (rows-beyond n kinds firsts seconds w d (omega arith)) (alike-sym h))
+      | yes b ↦ up-cells c d a b h
+    ]
+  ]

@@ -1,0 +1,76 @@
+-- The loop's invariant: the classes have climbed by joins of cells that are alike, and if by none, the cells below c have met their twins.
+use native.Mathlib.Omega.{arith}
+use Prim.Native.Nat.{_≤_, _-_}
+use mathlib.Core.Path.{_≡_, subst}
+use Rattle.model.specs.Stored.{tableAt}
+use Rattle.classes.specs.Upward.{Lifts}
+use Rattle.classes.proofs.UpwardLaws.{lifts-none, lifts-more, lifts-stay}
+use Rattle.classes.proofs.upward.lift.Statement.{statement}
+use Rattle.classes.proofs.upward.lift.Tie as tie
+
+abbrev Inv-loop : tie.InvT-loop
+Inv-loop kind first second n rep₀ changed₀ c₀ rep changed c =
+    Lifts n (tableAt kind first second) rep₀ c rep changed × (c ≤ n)
+
+abbrev μ-loop : tie.MeasureT-loop
+μ-loop kind first second n rep₀ changed₀ c₀ rep changed c = n - c
+
+loop-holds : tie.Need-loop-holds Inv-loop μ-loop
+loop-holds c =
+    let a = c .args in
+    (lifts-none (a .n) (tableAt (a .kind .now) (a .first .now) (a .second .now)) (a .start) (c .pre .1), omega arith)
+
+cast-meet : tie.Need-cast-meet Inv-loop μ-loop
+cast-meet c = omega (arith, c .before .before .pre .0 .few)
+
+meet-requires : tie.Need-meet-requires Inv-loop μ-loop
+meet-requires c κs = (c .before .before .pre .0, (c .before .loop .inv .0 .climbs .solved, omega arith))
+
+add-c : tie.Need-add-c Inv-loop μ-loop
+add-c c = omega arith
+
+loop-less : tie.Need-loop-less Inv-loop μ-loop
+loop-less c = omega arith
+
+loop-again : tie.Need-loop-again Inv-loop μ-loop
+loop-again c =
+    let q = c .before .before in
+    let l = q .before .before in
+    let a = l .before .args in
+    let v = l .loop in
+    (lifts-more (a .n) (tableAt (a .kind .now) (a .first .now) (a .second .now)) (a .start) (v .rep) (v .changed) (v .c) (v .inv .0) (q .meet .result) (q .meet .ensures) (c .if1 .taken), omega arith)
+
+loop-less-2 : tie.Need-loop-less-2 Inv-loop μ-loop
+loop-less-2 c = omega arith
+
+loop-again-2 : tie.Need-loop-again-2 Inv-loop μ-loop
+loop-again-2 c =
+    let q = c .before .before in
+    let l = q .before .before in
+    let a = l .before .args in
+    let v = l .loop in
+    (lifts-stay (a .n) (tableAt (a .kind .now) (a .first .now) (a .second .now)) (a .start) (v .rep) (v .changed) (v .c) (v .inv .0) (q .meet .result) (q .meet .ensures) (c .if1 .left), omega arith)
+
+returns : tie.Need-returns Inv-loop μ-loop
+returns c =
+    let l = c .before in
+    let a = l .before .args in
+    let v = l .loop in
+    let end : v .c ≡ a .n = omega arith in
+    subst (λ k. Lifts (a .n) (tableAt (a .kind .now) (a .first .now) (a .second .now)) (a .start) k (v .rep) (v .changed)) end (v .inv .0)
+
+pub lift-spec : {M : Type 1} → statement M
+lift-spec =
+    tie.close
+    (tie.spec
+    Inv-loop
+    μ-loop
+    loop-holds
+    cast-meet
+    meet-requires
+    add-c
+    loop-less
+    loop-again
+    loop-less-2
+    loop-again-2
+    returns)

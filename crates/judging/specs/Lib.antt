@@ -1,0 +1,4 @@
+pub mod Promise
+pub mod Form
+pub mod Follow
+pub mod Made

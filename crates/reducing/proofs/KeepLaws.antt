@@ -1,0 +1,142 @@
+-- The kept cells, found from the last cell down: parts stand lower.
+use mathlib.Core.Path.{_≡_, refl, sym, _∙_, subst}
+use mathlib.Core.Logic.{_⊎_, inl, inr}
+use mathlib.Core.List.{List}
+use Prim.Native.Nat.{ℕ, zero, suc, _+_, _≤_, _<_}
+use native.Mathlib.Omega.{arith}
+use native.Mathlib.Decide.{ℕ-discrete}
+use lib.ListN.{length, set, length-set}
+use Rattle.model.specs.Message.{One, App, Two}
+use Rattle.model.specs.Case.{Cell, AT, VA, ONE, TWO, Table, Part, in-arg, in-left, in-right}
+use Rattle.model.specs.Stored.{cellAt, tableAt}
+use Rattle.theory.specs.Cells.{classAt, On}
+use Rattle.reducing.specs.Given.{Given}
+use Rattle.reducing.specs.Bare.{Adds, Kept, itself, part, Keeps}
+use Rattle.reducing.proofs.MarkLaws.{on-new, on-stays, on-cases, on?}
+
+-- ---- the parts of a cell
+no-part : {n d : ℕ} → Part (AT n) d → ⊥
+no-part h = elim h [ ]
+
+no-part-variable : {d : ℕ} → Part VA d → ⊥
+no-part-variable h = elim h [ ]
+
+part-one : {g : One} {a d : ℕ} → Part (ONE g a) d → d ≡ a
+part-one in-arg = refl
+
+part-two : {h : Two} {l r d : ℕ} → Part (TWO h l r) d → (d ≡ l) ⊎ (d ≡ r)
+part-two in-left = inl refl
+part-two in-right = inr refl
+
+module _ (rep marks : List ℕ) (size : length marks ≡ 129) where
+  adds-nothing : (k : Cell) → ((d : ℕ) → Part k d → ⊥) → Adds rep marks k marks
+  adds-nothing k h = record { size = size; stays = λ c o. o; parts = λ d p. absurd (h d p); only = λ c n o. absurd (n o) }
+
+  pub adds-none : (k x y : ℕ) → k < 2 → Adds rep marks (cellAt k x y) marks
+  adds-none zero x y h = adds-nothing (AT _) (λ d. no-part)
+  adds-none (suc zero) x y h = adds-nothing VA (λ d. no-part-variable)
+  adds-none (suc (suc k)) x y h = absurd (omega arith)
+
+  adds-one : (g : One) (y b : ℕ) → b ≡ classAt rep y → b ≤ 128 → Adds rep marks (ONE g y) (set marks b 1)
+  adds-one g y b e h =
+      let lt : b < length marks = omega arith in
+      record {
+        size = length-set marks b 1 ∙ size;
+        stays = λ c o. on-stays marks b c lt o;
+        parts = λ d p. subst (On (set marks b 1)) (e ∙ subst (λ y. classAt rep y ≡ classAt rep d) (part-one p) refl) (on-new marks b lt);
+        only = λ c n o. elim (on-cases marks b c o) [ inl i ↦ (y, in-arg, i ∙ e) | inr o′ ↦ absurd (n o′) ];
+      }
+
+  pub adds-app : (k x y b : ℕ) → 4 ≤ k → b ≡ classAt rep y → b ≤ 128 → Adds rep marks (cellAt k x y) (set marks b 1)
+  adds-app zero x y b h e l = absurd (omega arith)
+  adds-app (suc zero) x y b h e l = absurd (omega arith)
+  adds-app (suc (suc zero)) x y b h e l = absurd (omega arith)
+  adds-app (suc (suc (suc zero))) x y b h e l = absurd (omega arith)
+  adds-app (suc (suc (suc (suc k)))) x y b h e l = adds-one (App x) y b e l
+
+  adds-both : (t : Two) (x y a b : ℕ) → b ≡ classAt rep y → b ≤ 128 → a ≡ classAt rep x → a ≤ 128 → Adds rep marks (TWO t x y) (set (set marks b 1) a 1)
+  adds-both t x y a b e l f q =
+      let lt : b < length marks = omega arith in
+      let one : List ℕ = set marks b 1 in
+      let s : length one ≡ 129 = length-set marks b 1 ∙ size in
+      let lt′ : a < length one = omega arith in
+      record {
+        size = length-set one a 1 ∙ s;
+        stays = λ c o. on-stays one a c lt′ (on-stays marks b c lt o);
+        parts = λ d p. elim (part-two p) [
+          | inl i ↦ subst (λ d. On (set one a 1) (classAt rep d)) (sym i) (subst (On (set one a 1)) f (on-new one a lt′))
+          | inr i ↦ subst (λ d. On (set one a 1) (classAt rep d)) (sym i) (subst (On (set one a 1)) e (on-stays one a b lt′ (on-new marks b lt)))
+        ];
+        only = λ c n o. elim (on-cases one a c o) [
+          | inl i ↦ (x, in-left, i ∙ f)
+          | inr o′ ↦ elim (on-cases marks b c o′) [ inl i ↦ (y, in-right, i ∙ e) | inr o″ ↦ absurd (n o″) ]
+        ];
+      }
+
+  pub adds-two : (k x y a b : ℕ) → 2 ≤ k → k < 4 → b ≡ classAt rep y → b ≤ 128 → a ≡ classAt rep x → a ≤ 128 → Adds rep marks (cellAt k x y) (set (set marks b 1) a 1)
+  adds-two zero x y a b h h′ e l f q = absurd (omega arith)
+  adds-two (suc zero) x y a b h h′ e l f q = absurd (omega arith)
+  adds-two (suc (suc zero)) x y a b h h′ e l f q = adds-both Two.Pair x y a b e l f q
+  adds-two (suc (suc (suc zero))) x y a b h h′ e l f q = adds-both Two.Seal x y a b e l f q
+  adds-two (suc (suc (suc (suc k)))) x y a b h h′ e l f q = absurd (omega arith)
+
+-- ---- the loop
+-- The marks on kept cells, closed under parts from the cell i on.
+pub record Keeping (T : Table) (rep bare : List ℕ) (i : ℕ) (marks : List ℕ) : Type 0 where
+  pub size : length marks ≡ 129
+  pub sound : (c : ℕ) → On marks c → Kept T rep bare c
+  pub has : (c : ℕ) → On bare c → On marks c
+  pub closed : (c d : ℕ) → i ≤ c → On marks c → Part (T c) d → On marks (classAt rep d)
+
+module _ (n : ℕ) (kinds firsts seconds rep bare : List ℕ) (g : Given n kinds firsts seconds rep) (below : (c : ℕ) → On bare c → c < n) where
+  abbrev T : Table
+  T = tableAt kinds firsts seconds
+
+  pub kept-below : {c : ℕ} → Kept T rep bare c → c < n
+  kept-below {c} (itself o) = below c o
+  kept-below (part {c = c} {d = d} k p e) =
+      let lt = kept-below k in
+      let low = g .rows .lower c d p in
+      let le = g .classes .lowest d (omega arith) in
+      omega arith
+
+  pub keeping-start : length bare ≡ 129 → Keeping T rep bare n bare
+  keeping-start s = record { size = s; sound = λ c o. itself o; has = λ c o. o; closed = λ c d h o p. (let lt = below c o in absurd (omega arith)) }
+
+  module _ (i : ℕ) (marks : List ℕ) (k : Keeping T rep bare (i + 1) marks) where
+    pub keeping-skip : (On marks i → ⊥) → Keeping T rep bare i marks
+    keeping-skip ne = record {
+      size = k .size;
+      sound = k .sound;
+      has = k .has;
+      closed = λ c d h o p. elim (ℕ-discrete c i) [ yes e ↦ absurd (ne (subst (On marks) e o)) | no u ↦ k .closed c d (omega arith) o p ];
+    }
+
+    pub keeping-add : (after : List ℕ) → On marks i → Adds rep marks (T i) after → Keeping T rep bare i after
+    keeping-add after o a = record {
+      size = a .size;
+      sound = λ c q. elim (on? marks c) [
+        | inl old ↦ k .sound c old
+        | inr new ↦ (let (d, p, e) = a .only c new q in part (k .sound i o) p e)
+      ];
+      has = λ c q. a .stays c (k .has c q);
+      closed = λ c d h q p. elim (on? marks c) [
+        | inl old ↦ elim (ℕ-discrete c i) [
+          | yes e ↦ a .parts d (subst (λ c. Part (T c) d) e p)
+          | no u ↦ a .stays (classAt rep d) (k .closed c d (omega arith) old p)
+        ]
+        | inr new ↦ (
+            let (d′, p′, e) = a .only c new q in
+            let low = g .rows .lower i d′ p′ in
+            let lt = kept-below (k .sound i o) in
+            let le = g .classes .lowest d′ (omega arith) in
+            absurd (omega arith))
+      ];
+    }
+
+  pub keeping-end : (marks : List ℕ) → Keeping T rep bare 0 marks → Keeps T rep bare n marks
+  keeping-end marks k = record { size = k .size; below = λ c o. kept-below (k .sound c o); exact = λ c. (k .sound c, all) }
+    where
+      all : {c : ℕ} → Kept T rep bare c → On marks c
+      all {c} (itself o) = k .has c o
+      all (part {c = c} {d = d} h p e) = subst (On marks) (sym e) (k .closed c d (omega arith) (all h) p)

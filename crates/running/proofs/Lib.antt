@@ -1,0 +1,3 @@
+-- The laws of the run's promise.
+pub mod PromiseLaws
+pub mod Theorems

@@ -1,0 +1,176 @@
+-- From what is read of the bytes and the reply on the stored table to the promise; and that the promise settles the reply.
+use mathlib.Core.Path.{_≡_, refl, sym, _∙_, ap, subst, fun-ext}
+use mathlib.Core.Bool.{true, false}
+use mathlib.Core.List.{List, _++_, append-assoc}
+use mathlib.Core.Logic.{_⊎_, inl, inr}
+use mathlib.Core.Option.{some}
+use Prim.Native.Nat.{ℕ, suc, _+_, _≤_, _<_}
+use native.Mathlib.Decide.{decLt}
+use native.Mathlib.Numerals.{add-one}
+use native.Mathlib.Omega.{arith}
+use lib.ListN.{length, getD, take, drop, set}
+use lib.Seq.{drop-at, take-suc, drop-cons, set-at, length-take-le}
+use Rattle.model.specs.Message.{Message}
+use Rattle.model.specs.Case.{File, MK, WellFormed, tableOf, runOf}
+use Rattle.model.specs.Format.{readFile, Reading, refused, accepted}
+use Rattle.model.specs.Stored.{tableAt, runAt, aim, asks, row}
+use Rattle.model.specs.Replies.{RightListed, NoneRight, laid}
+use Rattle.model.proofs.Accepted.{Bytes, accepted-file}
+use Rattle.model.proofs.Controls.{no-list-and-none}
+use Rattle.model.proofs.Listed.{elem-getD}
+use Rattle.model.proofs.Read.{clash}
+use Rattle.model.proofs.Rows.{table-rows, run-rows, row-at}
+use Rattle.theory.specs.Cells.{Rows}
+use Rattle.theory.proofs.Rows.{accepted-rows}
+use Rattle.wants.specs.Starts.{CellsBelow}
+use Rattle.solving.specs.declared.search.Solution.{Solution}
+use Rattle.solving.specs.Searches.{Solves}
+use Rattle.casefile.specs.declared.Case.{Case}
+use Rattle.casefile.specs.declared.cells.Table.{Table}
+use Rattle.casefile.specs.declared.events.Events.{Events}
+use Rattle.casefile.specs.declared.events.Verdict.the-variants as verdict
+use Rattle.casefile.specs.Cells.{stored}
+use Rattle.casefile.specs.Events.{storedEvents}
+use Rattle.casefile.specs.Case.{caseOf}
+use Rattle.running.specs.declared.Solved.{Solved}
+use Rattle.running.specs.declared.Solved.the-variants.{Refused, No, Yes}
+use Rattle.running.specs.Cells.{CellsRun}
+use Rattle.running.specs.Promise.{Answered, RunPromise, SameButList, same, lists}
+
+-- ---- the replies on a stored table
+
+module _ (n : ℕ) (T : ℕ → Rattle.model.specs.Case.Cell) (ev : Rattle.model.specs.Case.Run) (before : List ℕ) where
+  pub reply-short : length before < n → CellsRun n T ev before (Refused 9 n) before
+  reply-short s = record { short = λ _. (refl, refl); replied = λ r. absurd (omega arith); no = λ r. absurd (omega arith); yes = λ r. absurd (omega arith) }
+
+  module _ (room : n ≤ length before) (s : Solution) (w : Solves T n ev s) where
+    pub reply-no : s .yes ≡ false → CellsRun n T ev before No before
+    reply-no e = record { short = λ h. absurd (omega arith); replied = λ _. inl refl; no = λ _ _. (w .none e, refl); yes = λ _ i. clash (cc) }
+
+    pub reply-yes : s .yes ≡ true → (after : List ℕ) → after ≡ laid (take n (s .list)) before → CellsRun n T ev before (Yes n) after
+    reply-yes e after k = record { short = λ h. absurd (omega arith); replied = λ _. inr refl; no = λ _ i. clash (cc); yes = λ _ _. (take n (s .list), (w .form e, w .right e), k) }
+
+-- One byte more of the list, in the buffer.
+pub laid-next : (list before : List ℕ) (i : ℕ) → i < length list → i < length before → set (take i list ++ drop i before) i (getD list i 0) ≡ take (i + 1) list ++ drop (i + 1) before
+laid-next list before i h h′ =
+    rw (drop-cons before i 0 h′, add-one, take-suc list i 0 h, append-assoc)
+    (set-at (take i list) (getD before i 0) (drop (suc i) before) (getD list i 0) i (length-take-le i list (omega arith)))
+
+pub laid-all : (list before : List ℕ) (n : ℕ) → n ≤ length list → take n list ++ drop n before ≡ laid (take n list) before
+laid-all list before n h = ap (λ (k : ℕ). take n list ++ drop k before) (sym (length-take-le n list h))
+
+-- ---- what was read
+
+pub case-refused : (x : Reading) (r : Case) → r ≡ caseOf x → (number place : ℕ) → r .verdict ≡ verdict.Refused number place → x ≡ refused number place
+case-refused (refused n p) r e number place v = let z = ap (λ (u : Case). u .verdict) e in cc
+case-refused (accepted f) r e number place v = let z = ap (λ (u : Case). u .verdict) e in clash (cc)
+
+-- The table and the events that were read.
+pub record Kept (x : Reading) (t : Table) (e : Events) : Type 0 where
+  pub f : File
+  pub read : x ≡ accepted f
+  pub table : t ≡ stored (f .cells)
+  pub events : e ≡ storedEvents (f .events)
+
+pub case-accepted : (x : Reading) (r : Case) → r ≡ caseOf x → r .verdict ≡ verdict.Accepted → Kept x (r .table) (r .events)
+case-accepted (refused n p) r e v = let z = ap (λ (u : Case). u .verdict) e in clash (cc)
+case-accepted (accepted f) r e v = record { f = f; read = refl; table = ap (λ (u : Case). u .table) e; events = ap (λ (u : Case). u .events) e }
+
+module _ (file : List ℕ) (t : Table) (e : Events) (k : Kept (readFile file) t e) where
+  pub kept-rows : Bytes file → Rows (t .cells) (t .kind) (t .first) (t .second)
+  kept-rows bytes = subst (λ (u : Table). Rows (u .cells) (u .kind) (u .first) (u .second)) (sym (k .table)) (accepted-rows file (k .f) bytes (k .read))
+
+  pub kept-below : CellsBelow (t .cells) (e .cell) (e .count)
+  kept-below = subst (λ (u : Table). CellsBelow (u .cells) (e .cell) (e .count)) (sym (k .table)) (subst (λ (v : Events). CellsBelow (length (k .f .cells)) (v .cell) (v .count)) (sym (k .events)) below)
+    where
+      below : CellsBelow (length (k .f .cells)) (row aim (k .f .events)) (length (k .f .events))
+      below = record {
+        few = accepted-file file (k .f) (k .read) .fewEvents;
+        below = λ p h. rw (row-at aim (k .f .events) (MK 0) p refl) (accepted-file file (k .f) (k .read) .inside p (getD (k .f .events) p (MK 0)) (elem-getD (k .f .events) p (MK 0) h));
+      }
+
+  -- The table and the run in rows are those of the file.
+  same-table : tableAt (t .kind) (t .first) (t .second) ≡ tableOf (k .f .cells)
+  same-table = ap (λ (u : Table). tableAt (u .kind) (u .first) (u .second)) (k .table) ∙ fun-ext (table-rows (k .f .cells))
+
+  same-run : runAt (e .count) (e .kind) (e .cell) ≡ runOf (k .f .events)
+  same-run = ap (λ (v : Events). runAt (v .count) (v .kind) (v .cell)) (k .events) ∙ fun-ext (run-rows (k .f .events))
+
+  pub kept-formed : WellFormed (tableAt (t .kind) (t .first) (t .second)) (runAt (e .count) (e .kind) (e .cell))
+  kept-formed = subst (λ T. WellFormed T (runAt (e .count) (e .kind) (e .cell))) (sym same-table) (subst (WellFormed (tableOf (k .f .cells))) (sym same-run) (accepted-file file (k .f) (k .read) .formed))
+
+  pub kept-run : (before : List ℕ) (reply : Solved) (after : List ℕ) →
+      CellsRun (t .cells) (tableAt (t .kind) (t .first) (t .second)) (runAt (e .count) (e .kind) (e .cell)) before reply after →
+      CellsRun (length (k .f .cells)) (tableOf (k .f .cells)) (runOf (k .f .events)) before reply after
+  kept-run before reply after w =
+      subst (λ n. CellsRun n (tableOf (k .f .cells)) (runOf (k .f .events)) before reply after) (ap (λ (u : Table). u .cells) (k .table))
+      (subst (λ ev. CellsRun (t .cells) (tableOf (k .f .cells)) ev before reply after) same-run
+      (subst (λ T. CellsRun (t .cells) T (runAt (e .count) (e .kind) (e .cell)) before reply after) same-table w))
+
+-- ---- the promise
+
+module _ (file before : List ℕ) where
+  pub promise-refused : (number place : ℕ) → readFile file ≡ refused number place → RunPromise file before (Refused number place) before
+  promise-refused number place r = record {
+    unread = λ n p e. (let z : refused number place ≡ refused n p = sym r ∙ e in cc, refl);
+    short = λ f e. clash (cc);
+    replied = λ f q. (let e = q .read in clash (cc));
+    no = λ f q. (let e = q .read in clash (cc));
+    yes = λ f q. (let e = q .read in clash (cc));
+  }
+
+  module _ (f : File) (r : readFile file ≡ accepted f) (reply : Solved) (after : List ℕ) (w : CellsRun (length (f .cells)) (tableOf (f .cells)) (runOf (f .events)) before reply after) where
+    abbrev OfFile : File → Type 0
+    OfFile g = CellsRun (length (g .cells)) (tableOf (g .cells)) (runOf (g .events)) before reply after
+
+    -- The bytes are read as one file.
+    one : (g : File) → readFile file ≡ accepted g → OfFile g
+    one g e = let z : accepted f ≡ accepted g = sym r ∙ e in let y : f ≡ g = cc in subst OfFile y w
+
+    pub promise-accepted : RunPromise file before reply after
+    promise-accepted = record {
+      unread = λ n p e. clash (cc);
+      short = λ g e. one g e .short;
+      replied = λ g q. one g (q .read) .replied (q .room);
+      no = λ g q. one g (q .read) .no (q .room);
+      yes = λ g q. one g (q .read) .yes (q .room);
+    }
+
+-- ---- the promise settles the reply
+
+-- A right list and "no" exclude each other.
+pub no-and-yes : (file : List ℕ) (f : File) (list : List ℕ) → readFile file ≡ accepted f → NoneRight f → RightListed f list → ⊥
+no-and-yes file f list read none (form, right) = no-list-and-none (tableOf (f .cells)) (runOf (f .events)) _ (accepted-file file f read .lower) right none
+
+laid-beyond : (list before : List ℕ) (n : ℕ) → length list ≡ n → drop n (laid list before) ≡ drop n before
+laid-beyond list before n e = drop-at list (drop (length list) before) n e ∙ ap (λ (k : ℕ). drop k before) e
+
+module _ (file before : List ℕ) (r r′ : Solved) (after after′ : List ℕ) (p : RunPromise file before r after) (p′ : RunPromise file before r′ after′) where
+  abbrev Alike : Type 0
+  Alike = (r ≡ r′) × SameButList file before after after′
+
+  refusals : {x : Solved} → (r ≡ x) × (after ≡ before) → (r′ ≡ x) × (after′ ≡ before) → Alike
+  refusals (e, k) (e′, k′) = (e ∙ sym e′, same (k ∙ sym k′))
+
+  answers : (f : File) (q : Answered file before f) → (r ≡ No) ⊎ (r ≡ Yes (length (f .cells))) → (r′ ≡ No) ⊎ (r′ ≡ Yes (length (f .cells))) → Alike
+  answers f q (inl e) (inl e′) = (e ∙ sym e′, same (p .no f q e .1 ∙ sym (p′ .no f q e′ .1)))
+  answers f q (inl e) (inr e′) = let (list, w, k) = p′ .yes f q e′ in absurd (no-and-yes file f list (q .read) (p .no f q e .0) w)
+  answers f q (inr e) (inl e′) = let (list, w, k) = p .yes f q e in absurd (no-and-yes file f list (q .read) (p′ .no f q e′ .0) w)
+  answers f q (inr e) (inr e′) =
+      let (list, w, k) = p .yes f q e in
+      let (list′, w′, k′) = p′ .yes f q e′ in
+      let n = length (f .cells) in (
+        e ∙ sym e′,
+        lists f list list′ (q .read) w w′ k k′
+            (ap (drop n) k ∙ (laid-beyond list before n (w .0 .size) ∙ (sym (laid-beyond list′ before n (w′ .0 .size)) ∙ ap (drop n) (sym k′)))),
+      )
+
+  pub settled : Alike
+  settled = go (readFile file) refl
+    where
+      go : (x : Reading) → readFile file ≡ x → Alike
+      go (refused n at) e = refusals (p .unread n at e) (p′ .unread n at e)
+      go (accepted f) e = elim (decLt (length before) (length (f .cells))) [
+        | yes s ↦ refusals (p .short f e s) (p′ .short f e s)
+        | no s ↦ (let q : Answered file before f = record { read = e; room = omega arith } in answers f q (p .replied f q) (p′ .replied f q))
+      ]

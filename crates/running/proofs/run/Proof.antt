@@ -1,0 +1,73 @@
+use native.Mathlib.Omega.{arith}
+use denote.Ref.{now}
+use Rattle.model.specs.Format.{readFile}
+use Rattle.running.proofs.PromiseLaws.{case-refused, case-accepted, kept-rows, kept-below, kept-formed, kept-run, promise-refused, promise-accepted}
+use borrow.Author.Needs.{needs}
+use Rattle.running.proofs.run.Statement.{statement}
+use Rattle.running.proofs.run.Tie as tie
+use Rattle.running.proofs.run.Reads as reads
+use Rattle.running.proofs.run.Lts as lts
+use Rattle.casefile.proofs.read_case.Reads as read-case-reads
+use Rattle.running.proofs.run_cells.Reads as run-cells-reads
+
+-- src/lib.rt:65:9
+read-case-requires : tie.Need-read-case-requires
+read-case-requires c κs = search needs
+
+-- src/lib.rt:70:26
+enum-known-verdict : tie.Need-enum-known-verdict
+enum-known-verdict c = search needs
+
+-- src/lib.rt:71:40
+enum-told : tie.Need-enum-told
+enum-told c = search needs
+
+-- src/lib.rt:71:30
+run-cells-requires : tie.Need-run-cells-requires
+run-cells-requires c κs =
+    let told = c .before .before .before .before .before .before .before .before in
+    let r = told .before .before .before .before in
+    let s = r .before .before in
+    let file = now (s .before .args .file) in
+    let t = r .read-case .result .table in
+    let e = r .read-case .result .events in
+    let k = case-accepted (readFile file) (r .read-case .result) (r .read-case .ensures) (told .enum-told .given .1) in
+    (kept-rows file t e k (λ i. omega (arith, s .shared-slice-known .given i)), (kept-below file t e k, kept-formed file t e k))
+
+-- src/lib.rt:62:1
+returns : tie.Need-returns
+returns c =
+    let r = c .before .before .before .before .before in
+    let a = r .before .before .before .args in
+    let file = now (a .file) in
+    promise-refused file (now (a .out)) _ _ (case-refused (readFile file) (r .read-case .result) (r .read-case .ensures) _ _ (c .before .verdict .given .1))
+
+-- src/lib.rt:62:1
+same-length : tie.Need-same-length
+same-length c = search needs
+
+-- src/lib.rt:62:1
+returns-2 : tie.Need-returns-2
+returns-2 c =
+    let q = c .before .before in
+    let told = q .before .before .before .before .before .before .before .before .before in
+    let r = told .before .before .before .before in
+    let s = r .before .before in
+    let file = now (s .before .args .file) in
+    let t = r .read-case .result .table in
+    let e = r .read-case .result .events in
+    let k = case-accepted (readFile file) (r .read-case .result) (r .read-case .ensures) (told .enum-told .given .1) in
+    let out = now (s .before .args .out) in
+    promise-accepted file out (k .f) (k .read) (q .run-cells .result) _ (kept-run file t e k out (q .run-cells .result) _ (q .run-cells .ensures))
+
+pub run-spec : {M : Type 1} → statement M
+run-spec =
+    tie.close
+    (tie.spec
+    read-case-requires
+    enum-known-verdict
+    enum-told
+    run-cells-requires
+    returns
+    same-length
+    returns-2)

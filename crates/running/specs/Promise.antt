@@ -1,0 +1,36 @@
+-- What a run promises (document 01, "Run" and "Refusal numbers and their order"), for any bytes and any buffer. Assumes nothing.
+-- Answered: the file is accepted and the buffer has room; RunPromise: the contract, a field for each sentence; SameButList: two buffers that differ at most in the list shown.
+use mathlib.Core.Path.{_≡_}
+use mathlib.Core.List.{List}
+use mathlib.Core.Logic.{_⊎_}
+use Prim.Native.Nat.{ℕ, _≤_, _<_}
+use lib.ListN.{length, drop}
+use Rattle.model.specs.Case.{File}
+use Rattle.model.specs.Format.{readFile, refused, accepted}
+use Rattle.model.specs.Replies.{RightListed, NoneRight, laid}
+use Rattle.running.specs.declared.Solved.{Solved}
+use Rattle.running.specs.declared.Solved.the-variants.{Refused, No, Yes}
+
+-- The bytes are accepted as the file f, and the buffer is not shorter than the reply.
+pub record Answered (file before : List ℕ) (f : File) : Type 0 where
+  pub read : readFile file ≡ accepted f
+  pub room : length (f .cells) ≤ length before
+
+-- The reply to the run of a file, and the buffer before and after.
+pub record RunPromise (file before : List ℕ) (reply : Solved) (after : List ℕ) : Type 0 where
+  -- the file's own refusals come first, and leave the buffer as it was
+  pub unread : (number place : ℕ) → readFile file ≡ refused number place → (reply ≡ Refused number place) × (after ≡ before)
+  -- then 9, with the cell count, if the buffer is shorter; it comes before "no"
+  pub short : (f : File) → readFile file ≡ accepted f → length before < length (f .cells) → (reply ≡ Refused 9 (length (f .cells))) × (after ≡ before)
+  -- then the reply is "no" or "yes" with a list of one byte for each cell
+  pub replied : (f : File) → Answered file before f → (reply ≡ No) ⊎ (reply ≡ Yes (length (f .cells)))
+  -- "no": no values of the variables are right, and nothing is written
+  pub no : (f : File) → Answered file before f → reply ≡ No → NoneRight f × (after ≡ before)
+  -- "yes": a value list in good form that is right stands at the front of the buffer, and no byte beyond it is touched
+  pub yes : (f : File) → Answered file before f → reply ≡ Yes (length (f .cells)) → (list : List ℕ) × RightListed f list × (after ≡ laid list before)
+
+-- Two buffers after the reply are equal; or each has a right list at its front, and the bytes beyond it are equal.
+pub data SameButList (file before after after′ : List ℕ) : Type 0 where
+  same : after ≡ after′ → SameButList file before after after′
+  lists : (f : File) (list list′ : List ℕ) → readFile file ≡ accepted f → RightListed f list → RightListed f list′ →
+      after ≡ laid list before → after′ ≡ laid list′ before → drop (length (f .cells)) after ≡ drop (length (f .cells)) after′ → SameButList file before after after′
