@@ -8,6 +8,15 @@ use Rattle.building.specs.Promise.{MarksPromise}
 use Rattle.equating.specs.declared.Equated.{Equated}
 use Rattle.equating.specs.declared.Equated.the-variants as equated
 use Rattle.equating.specs.Promise.{EquatePromise}
+use Rattle.judging.specs.declared.Judged.{Judged}
+use Rattle.judging.specs.declared.Judged.the-variants as judged
+use Rattle.judging.specs.Promise.{JudgePromise}
+use Rattle.reducing.specs.declared.Reduced.{Reduced}
+use Rattle.reducing.specs.declared.Reduced.the-variants as reduced
+use Rattle.reducing.specs.Promise.{ReducePromise}
+use Rattle.running.specs.declared.Solved.{Solved}
+use Rattle.running.specs.declared.Solved.the-variants as solved
+use Rattle.running.specs.Promise.{RunPromise}
 
 -- A refusal: its number, and its place below 2 ^ 32.
 abbrev pub refusalNumber : ℕ → ℕ → ℕ
@@ -31,3 +40,32 @@ marksNumber (marked.Marks n) = n + 1
 -- The number r is that of a reply that keeps the promise of build marks.
 abbrev pub MarksTold : List ℕ → List ℕ → ℕ → List ℕ → Type 0
 MarksTold file before r after = (reply : Marked) × MarksPromise file before reply after × (r ≡ marksNumber reply)
+
+-- Run.
+abbrev pub runNumber : Solved → ℕ
+runNumber (solved.Refused number place) = refusalNumber number place
+runNumber solved.No = 0
+runNumber (solved.Yes n) = n + 1
+
+-- The number r is that of a reply that keeps the promise of a run.
+abbrev pub RunTold : List ℕ → List ℕ → ℕ → List ℕ → Type 0
+RunTold file before r after = (reply : Solved) × RunPromise file before reply after × (r ≡ runNumber reply)
+
+-- List check.
+abbrev pub checkNumber : Judged → ℕ
+checkNumber (judged.Refused number place) = refusalNumber number place
+checkNumber judged.Wrong = 0
+checkNumber judged.Right = 1
+
+-- The number r is that of a reply that keeps the promise of the list check.
+abbrev pub CheckTold : List ℕ → List ℕ → ℕ → Type 0
+CheckTold file list r = (reply : Judged) × JudgePromise file list reply × (r ≡ checkNumber reply)
+
+-- Reducing.
+abbrev pub reduceNumber : Reduced → ℕ
+reduceNumber (reduced.Refused number place) = refusalNumber number place
+reduceNumber (reduced.Reduced n) = n + 1
+
+-- The number r is that of a reply that keeps the promise of reducing.
+abbrev pub ReduceTold : List ℕ → List ℕ → ℕ → List ℕ → Type 0
+ReduceTold file before r after = (reply : Reduced) × ReducePromise file before reply after × (r ≡ reduceNumber reply)

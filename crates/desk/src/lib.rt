@@ -2,9 +2,12 @@
 // A refusal is number * 2^32 + place; "no" and "wrong" are 0; "right" is 1; every other reply is 1 + the bytes written.
 use building::Marked;
 use equating::Equated;
+use judging::Judged;
+use reducing::Reduced;
+use running::Solved;
 ghost use mathlib.Core.Path.{_≡_};
 ghost use Prim.Native.Nat.{_≤_};
-ghost use Rattle.desk.specs.Numbers.{refusalNumber, EquateTold, MarksTold};
+ghost use Rattle.desk.specs.Numbers.{refusalNumber, EquateTold, RunTold, CheckTold, MarksTold, ReduceTold};
 
 // The number of a refusal.
 fn refusal(number: u8, place: usize) -> u64
@@ -27,6 +30,32 @@ pub extern "C" fn prismfleece_equate(file: &[u8], a: usize, b: usize, out: &mut 
     }
 }
 
+// Run: a right value list in `out`, or "no".
+#[no_mangle]
+pub extern "C" fn prismfleece_run(file: &[u8], out: &mut [u8]) -> u64
+    ensures { λ r. ⌜ RunTold (now (file .entry)) (now (out .entry)) r (now (out .exit)) ⌝ }
+{
+    let reply = running::run(file, out);
+    match reply {
+        Solved::Refused(number, place) => refusal(number, place),
+        Solved::No => 0,
+        Solved::Yes(n) => n as u64 + 1,
+    }
+}
+
+// List check: is the value list right?
+#[no_mangle]
+pub extern "C" fn prismfleece_check(file: &[u8], list: &[u8]) -> u64
+    ensures { λ r. ⌜ CheckTold (now (file .entry)) (now (list .entry)) r ⌝ }
+{
+    let reply = judging::judge(file, list);
+    match reply {
+        Judged::Refused(number, place) => refusal(number, place),
+        Judged::Wrong => 0,
+        Judged::Right => 1,
+    }
+}
+
 // Build marks: one byte per cell in `out`.
 #[no_mangle]
 pub extern "C" fn prismfleece_marks(file: &[u8], out: &mut [u8]) -> u64
@@ -36,5 +65,17 @@ pub extern "C" fn prismfleece_marks(file: &[u8], out: &mut [u8]) -> u64
     match reply {
         Marked::Refused(number, place) => refusal(number, place),
         Marked::Marks(n) => n as u64 + 1,
+    }
+}
+
+// Reducing: the reduced file in `out`.
+#[no_mangle]
+pub extern "C" fn prismfleece_reduce(file: &[u8], out: &mut [u8]) -> u64
+    ensures { λ r. ⌜ ReduceTold (now (file .entry)) (now (out .entry)) r (now (out .exit)) ⌝ }
+{
+    let reply = reducing::reduce(file, out);
+    match reply {
+        Reduced::Refused(number, place) => refusal(number, place),
+        Reduced::Reduced(n) => n as u64 + 1,
     }
 }

@@ -23,7 +23,10 @@ module _ (file before : List ℕ) (reply : Solved) (after : List ℕ) (p : RunPr
 
   -- "No" exactly if no finite values are right.
   pub run-complete : (reply ≡ No) ↔ NoneRight f
-  run-complete = (λ e. p .no f q e .0, λ none. elim (p .replied f q) [
-    | inl e ↦ e
-    | inr e ↦ (let (list, w, k) = p .yes f q e in absurd (no-and-yes file f list (q .read) none w))
-  ])
+  run-complete = (
+    λ e. p .no f q e .0,
+    λ none. elim (p .replied f q) [
+      | inl e ↦ e
+      | inr e ↦ (let (list, w, k) = p .yes f q e in absurd (no-and-yes file f list (q .read) none w))
+    ],
+  )

@@ -68,6 +68,15 @@ pub fn run(file: &[u8], out: &mut [u8]) -> Solved
     let e = read.events;
     match verdict {
         Verdict::Refused(number, place) => Solved::Refused(number, place),
-        Verdict::Accepted => run_cells(&t.kind, &t.first, &t.second, t.cells, &e.kind, &e.cell, e.count, out),
+        Verdict::Accepted => run_cells(
+            &t.kind,
+            &t.first,
+            &t.second,
+            t.cells,
+            &e.kind,
+            &e.cell,
+            e.count,
+            out,
+        ),
     }
 }
