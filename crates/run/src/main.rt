@@ -1,8 +1,9 @@
-// Reads a case file from standard input, of any length, and says whether it is accepted: its counts, or the refusal.
+// Reads a case file from standard input, of any length, and prints the reply to its run: counts, "yes" or "no", and the values of the variables.
 // The reply depends on the first 899 bytes only, so a buffer of 2048 is enough.
 use casefile::events::Verdict;
 use libc::STDIN_FILENO;
 use libc::STDOUT_FILENO;
+use running::Solved;
 
 fn print(text: &[u8]) {
     io::write_all(STDOUT_FILENO, text);
@@ -28,12 +29,50 @@ fn print_refused(number: u8, place: usize) {
     print(b"\n");
 }
 
+// The value of the variable v: a cell, or his own name.
+fn print_value(v: usize, entry: u8) {
+    print(b"v");
+    print_number(v);
+    print(b" = ");
+    if entry == 255 {
+        print(b"own\n");
+    } else {
+        print_number(entry as usize);
+        print(b"\n");
+    }
+}
+
+// One line for each variable of a table of n cells, in rising order.
+fn print_values(kind: &[u8; 128], list: [u8; 128], n: usize) {
+    let mut v: usize = 0;
+    while v < n {
+        if v < 128 {
+            if kind[v] == 1 {
+                print_value(v, list[v]);
+            }
+        }
+        v += 1;
+    }
+}
+
 fn answer(file: &[u8]) {
     let case = casefile::read_case(file);
     let verdict = case.verdict;
-    match verdict {
-        Verdict::Accepted => print_counts(case.table.cells, case.events.count),
-        Verdict::Refused(number, place) => print_refused(number, place),
+    if let Verdict::Refused(number, place) = verdict {
+        print_refused(number, place);
+        return;
+    }
+    let t = case.table;
+    print_counts(t.cells, case.events.count);
+    let mut list = [0u8; 128];
+    let reply = running::run(file, &mut list);
+    match reply {
+        Solved::Refused(number, place) => print_refused(number, place),
+        Solved::No => print(b"run no\n"),
+        Solved::Yes(n) => {
+            print(b"run yes\n");
+            print_values(&t.kind, list, n);
+        }
     }
 }
 
