@@ -39,7 +39,7 @@ struct Fallen {
 }
 
 // The marks after both, and whether they added any.
-struct Turn {
+pub struct Turn {
     pub seen: [u8; 129],
     pub built: [u8; 129],
     pub changed: bool,
@@ -275,7 +275,7 @@ fn fall<'a>(
 }
 
 // One sweep upwards and one downwards.
-fn sweep<'a>(
+pub fn sweep<'a>(
     kind: &'a [u8; 128],
     first: &'a [u8; 128],
     second: &'a [u8; 128],
@@ -309,7 +309,7 @@ fn sweep<'a>(
 }
 
 // Marks his own name as built, if no cell of the table stands for it.
-fn own_marks<'a>(n: usize, rep: &'a [u8; 129]) -> [u8; 129]
+pub fn own_marks<'a>(n: usize, rep: &'a [u8; 129]) -> [u8; 129]
     requires { ⌜ ClassRow n (now rep) ⌝ }
     ensures { λ r. ⌜ OwnMarks n (now (rep .entry)) r ⌝ }
 {

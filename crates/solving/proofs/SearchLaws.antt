@@ -10,6 +10,7 @@ use native.Mathlib.Decide.{decLt}
 use Rattle.model.specs.Message.{atom}
 use Rattle.model.specs.Case.{Cell, MK, Table, Run, WellFormed}
 use Rattle.model.specs.Stored.{tableAt}
+use Rattle.model.proofs.Read.{clash}
 use Rattle.theory.specs.Cells.{Rows, classAt, On}
 use Rattle.theory.specs.Level.{Kin, Mark, built}
 use Rattle.theory.specs.Search.{None, NoneWith}
@@ -111,6 +112,14 @@ searched-child T n ev rep next f x y = record { solved = x .solved; ready = x .r
 -- ---- the reply
 
 module _ {n : ℕ} {K F S : List ℕ} (w : Rows n K F S) (ev : Run) where
+  -- The early no.
+  pub solves-none : (rep : List ℕ) (r : Solution) → Start n (tableAt K F S) rep → None (tableAt K F S) ev (classAt rep) → r .yes ≡ false → Solves (tableAt K F S) n ev r
+  solves-none rep r st none e = record {
+    form = λ y. clash (cc);
+    right = λ y. clash (cc);
+    none = λ y ρ. reply-no (tableAt K F S) ev (classAt rep) (w .lower) (st .met) none ρ;
+  }
+
   pub solves : (rep : List ℕ) (f : Found) (r : Solution) → Start n (tableAt K F S) rep → Searched (tableAt K F S) n ev rep f → Listed (tableAt K F S) n (f .rep) (r .list) n → r .yes ≡ f .yes →
       Solves (tableAt K F S) n ev r
   solves rep f r st x l e = record {

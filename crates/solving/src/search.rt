@@ -5,6 +5,7 @@ use super::pairs::next_pair;
 use super::plan::plan;
 use classes::start;
 use classes::unify;
+use hopeless::hopes::hopeless;
 ghost use Prim.Native.Nat.{_≤_, _<_};
 ghost use Rattle.model.specs.Case.{WellFormed};
 ghost use Rattle.model.specs.Stored.{tableAt, runAt};
@@ -137,6 +138,12 @@ pub fn solve<'a>(
     ensures { λ r. ⌜ Solves (tableAt (now (kind .entry)) (now (first .entry)) (now (second .entry))) n (runAt count (now (ekind .entry)) (now (ecell .entry))) r ⌝ }
 {
     let rep = start(kind, first, second, n);
+    if hopeless(kind, first, second, n, ekind, ecell, count, rep) {
+        return Solution {
+            yes: false,
+            list: [0; 128],
+        };
+    }
     let f = search(kind, first, second, n, ekind, ecell, count, rep);
     let list = value_list(kind, n, &f.rep);
     Solution {

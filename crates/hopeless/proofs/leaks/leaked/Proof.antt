@@ -1,0 +1,25 @@
+-- The sets, and what leaks by them.
+use borrow.Author.Needs.{needs}
+use Rattle.hopeless.proofs.MeetLaws.{kept-row}
+use Rattle.hopeless.proofs.LeakLaws.{leaked-all}
+use Rattle.hopeless.proofs.leaks.leaked.Statement.{statement}
+use Rattle.hopeless.proofs.leaks.leaked.Tie as tie
+
+held-row-requires : tie.Need-held-row-requires
+held-row-requires c κs = let s = c .before .before in (s .pre .0, (kept-row (s .pre .0) (s .pre .1 .0), s .pre .1 .1 .1))
+
+over-row-requires : tie.Need-over-row-requires
+over-row-requires c κs =
+    let s = c .before .before .before .before .before in (s .pre .0, (kept-row (s .pre .0) (s .pre .1 .0), s .pre .1 .1 .0))
+
+leak-requires : tie.Need-leak-requires
+leak-requires c κs = search needs
+
+returns : tie.Need-returns
+returns c =
+    let c3 = c .before .before .before in
+    let c6 = c3 .before .before .before in
+    leaked-all (c6 .held-row .ensures) (c3 .over-row .ensures) (c .leak .ensures)
+
+pub leaked-spec : {M : Type 1} → statement M
+leaked-spec = tie.close (tie.spec held-row-requires over-row-requires leak-requires returns)

@@ -1,0 +1,193 @@
+// What comes to light where a cell over a free class is equal to one that may be seen.
+use super::meets::Row;
+use super::meets::may;
+use wants::spread::lowered;
+use wants::spread::raised;
+use wants::starts::Pick;
+use wants::starts::due;
+use wants::starts::ends;
+use wants::starts::free_seen;
+ghost use Prim.Native.Nat.{_≤_, _<_};
+ghost use Rattle.model.specs.Stored.{tableAt};
+ghost use Rattle.theory.specs.Cells.{Rows};
+ghost use Rattle.classes.specs.Kept.{Kept};
+ghost use Rattle.knowledge.specs.Knowledge.{ClassRow, Marked};
+ghost use Rattle.knowledge.specs.Sweeps.{Decides};
+ghost use Rattle.wants.specs.Starts.{CellsBelow};
+ghost use Rattle.hopeless.specs.Leaks.{Bright, LeakTold, LeakingRow, Leaking, HeldRow, OverRow, Leaked};
+
+// Does y come to light, in the place of x?
+pub fn bright<'a>(held: &'a [u8; 129], seen: &'a [u8; 129], x: usize, y: usize) -> bool
+    requires { ⌜ x ≤ 128 ⌝ }
+    requires { ⌜ y ≤ 128 ⌝ }
+    ensures { λ r. ⌜ Decides r (Bright (now (held .entry)) (now (seen .entry)) x y) ⌝ }
+{
+    if held[x] != 1 {
+        return false;
+    }
+    seen[y] != 1
+}
+
+// A part of d that comes to light if c is equal to d.
+pub fn leak_at<'a>(
+    kind: &'a [u8; 128],
+    first: &'a [u8; 128],
+    second: &'a [u8; 128],
+    n: usize,
+    rep: [u8; 129],
+    held: &'a [u8; 129],
+    seen: &'a [u8; 129],
+    c: usize,
+    d: usize,
+) -> Pick
+    requires { ⌜ Rows n (now kind) (now first) (now second) ⌝ }
+    requires { ⌜ Kept n (tableAt (now kind) (now first) (now second)) rep ⌝ }
+    requires { ⌜ c < n ⌝ }
+    requires { ⌜ d < n ⌝ }
+    ensures { λ r. ⌜ LeakTold (tableAt (now (kind .entry)) (now (first .entry)) (now (second .entry))) rep (now (held .entry)) (now (seen .entry)) c d r ⌝ }
+{
+    let e = ends(kind, first, second, n, &rep, c);
+    let f = ends(kind, first, second, n, &rep, d);
+    if bright(held, seen, e.left, f.left) {
+        if may(kind, first, second, n, rep, seen, c, d) {
+            return Pick::Mark(f.left);
+        }
+        return Pick::Nothing;
+    }
+    if !bright(held, seen, e.right, f.right) {
+        return Pick::Nothing;
+    }
+    if may(kind, first, second, n, rep, seen, c, d) {
+        return Pick::Mark(f.right);
+    }
+    Pick::Nothing
+}
+
+// Marks what comes to light of the cells that may be equal to c.
+pub fn leak_row<'a>(
+    kind: &'a [u8; 128],
+    first: &'a [u8; 128],
+    second: &'a [u8; 128],
+    n: usize,
+    rep: [u8; 129],
+    held: &'a [u8; 129],
+    start: [u8; 129],
+    c: usize,
+) -> Row
+    requires { ⌜ Rows n (now kind) (now first) (now second) ⌝ }
+    requires { ⌜ Kept n (tableAt (now kind) (now first) (now second)) rep ⌝ }
+    requires { ⌜ Marked rep start ⌝ }
+    requires { ⌜ c < n ⌝ }
+    ensures { λ r. ⌜ LeakingRow (tableAt (now (kind .entry)) (now (first .entry)) (now (second .entry))) rep (now (held .entry)) c start (r .marks) (r .changed) n ⌝ }
+{
+    let mut m = start;
+    let mut changed = false;
+    let mut d = 0;
+    while d < n {
+        let p = leak_at(kind, first, second, n, rep, held, &m, c, d);
+        if let Pick::Mark(x) = p {
+            m[x] = 1;
+            changed = true;
+        }
+        d += 1;
+    }
+    Row {
+        marks: m,
+        changed: changed,
+    }
+}
+
+// The same for the first cell of `over` where something comes to light.
+pub fn leak<'a>(
+    kind: &'a [u8; 128],
+    first: &'a [u8; 128],
+    second: &'a [u8; 128],
+    n: usize,
+    rep: [u8; 129],
+    held: &'a [u8; 129],
+    over: &'a [u8; 129],
+    start: [u8; 129],
+) -> Row
+    requires { ⌜ Rows n (now kind) (now first) (now second) ⌝ }
+    requires { ⌜ Kept n (tableAt (now kind) (now first) (now second)) rep ⌝ }
+    requires { ⌜ Marked rep start ⌝ }
+    ensures { λ r. ⌜ Leaking (tableAt (now (kind .entry)) (now (first .entry)) (now (second .entry))) n rep (now (held .entry)) (now (over .entry)) start (r .marks) (r .changed) ⌝ }
+{
+    let mut c = 0;
+    while c < n {
+        if over[c] == 1 {
+            let s = leak_row(kind, first, second, n, rep, held, start, c);
+            if s.changed {
+                return s;
+            }
+        }
+        c += 1;
+    }
+    Row {
+        marks: start,
+        changed: false,
+    }
+}
+
+// The cells that hold a free class that is seen.
+pub fn held_row<'a>(
+    kind: &'a [u8; 128],
+    first: &'a [u8; 128],
+    second: &'a [u8; 128],
+    n: usize,
+    rep: &'a [u8; 129],
+    seen: &'a [u8; 129],
+) -> [u8; 129]
+    requires { ⌜ Rows n (now kind) (now first) (now second) ⌝ }
+    requires { ⌜ ClassRow n (now rep) ⌝ }
+    requires { ⌜ Marked (now rep) (now seen) ⌝ }
+    ensures { λ r. ⌜ HeldRow (tableAt (now (kind .entry)) (now (first .entry)) (now (second .entry))) (now (rep .entry)) (now (seen .entry)) r ⌝ }
+{
+    let m = free_seen(kind, n, rep, seen);
+    raised(kind, first, second, n, rep, m)
+}
+
+// The cells that are to be made before p, and their parts as far as they are held.
+pub fn over_row<'a>(
+    kind: &'a [u8; 128],
+    first: &'a [u8; 128],
+    second: &'a [u8; 128],
+    n: usize,
+    rep: &'a [u8; 129],
+    held: &'a [u8; 129],
+    ekind: &'a [u8; 128],
+    ecell: &'a [u8; 128],
+    p: usize,
+) -> [u8; 129]
+    requires { ⌜ Rows n (now kind) (now first) (now second) ⌝ }
+    requires { ⌜ ClassRow n (now rep) ⌝ }
+    requires { ⌜ CellsBelow n (now ecell) p ⌝ }
+    ensures { λ r. ⌜ OverRow (tableAt (now (kind .entry)) (now (first .entry)) (now (second .entry))) (now (rep .entry)) (now (held .entry)) (now (ekind .entry)) (now (ecell .entry)) p r ⌝ }
+{
+    let all = [1; 129];
+    let m = due(n, rep, &all, ekind, ecell, p);
+    lowered(kind, first, second, n, rep, held, 1, m)
+}
+
+// Marks what comes to light before p.
+pub fn leaked<'a>(
+    kind: &'a [u8; 128],
+    first: &'a [u8; 128],
+    second: &'a [u8; 128],
+    n: usize,
+    rep: [u8; 129],
+    ekind: &'a [u8; 128],
+    ecell: &'a [u8; 128],
+    p: usize,
+    start: [u8; 129],
+) -> Row
+    requires { ⌜ Rows n (now kind) (now first) (now second) ⌝ }
+    requires { ⌜ Kept n (tableAt (now kind) (now first) (now second)) rep ⌝ }
+    requires { ⌜ CellsBelow n (now ecell) p ⌝ }
+    requires { ⌜ Marked rep start ⌝ }
+    ensures { λ r. ⌜ Leaked (tableAt (now (kind .entry)) (now (first .entry)) (now (second .entry))) n rep (now (ekind .entry)) (now (ecell .entry)) p start (r .marks) (r .changed) ⌝ }
+{
+    let held = held_row(kind, first, second, n, &rep, &start);
+    let over = over_row(kind, first, second, n, &rep, &held, ekind, ecell, p);
+    leak(kind, first, second, n, rep, &held, &over, start)
+}

@@ -1,0 +1,131 @@
+// Cells that may be equal to one that may be seen.
+use classes::unify;
+use knowledge::class_of;
+ghost use mathlib.Core.Path.{_≡_};
+ghost use mathlib.Core.Bool.{false};
+ghost use Prim.Native.Nat.{_<_};
+ghost use Rattle.model.specs.Stored.{tableAt};
+ghost use Rattle.theory.specs.Cells.{Rows, On};
+ghost use Rattle.classes.specs.Kept.{Kept};
+ghost use Rattle.knowledge.specs.Knowledge.{Marked};
+ghost use Rattle.hopeless.specs.Meets.{May, Alone, EqualTold, Equalling};
+
+// A row of marks, and whether it has more than before.
+pub struct Row {
+    pub marks: [u8; 129],
+    pub changed: bool,
+}
+
+// May c be equal to d, which is seen? If not, it is not.
+pub fn may<'a>(
+    kind: &'a [u8; 128],
+    first: &'a [u8; 128],
+    second: &'a [u8; 128],
+    n: usize,
+    rep: [u8; 129],
+    seen: &'a [u8; 129],
+    c: usize,
+    d: usize,
+) -> bool
+    requires { ⌜ Rows n (now kind) (now first) (now second) ⌝ }
+    requires { ⌜ Kept n (tableAt (now kind) (now first) (now second)) rep ⌝ }
+    requires { ⌜ c < n ⌝ }
+    requires { ⌜ d < n ⌝ }
+    ensures { λ r. ⌜ (r ≡ false → On (now (seen .entry)) d → May (tableAt (now (kind .entry)) (now (first .entry)) (now (second .entry))) rep c d → ⊥) ⌝ }
+{
+    if seen[d] != 1 {
+        return false;
+    }
+    if kind[c] < 3 {
+        return false;
+    }
+    if kind[d] < 3 {
+        return false;
+    }
+    if class_of(&rep, c) == class_of(&rep, d) {
+        return false;
+    }
+    let u = unify(kind, first, second, n, rep, c as u8, d as u8);
+    u.ok
+}
+
+// May c be equal to a cell that is seen? If not, it is not.
+pub fn meets<'a>(
+    kind: &'a [u8; 128],
+    first: &'a [u8; 128],
+    second: &'a [u8; 128],
+    n: usize,
+    rep: [u8; 129],
+    seen: &'a [u8; 129],
+    c: usize,
+) -> bool
+    requires { ⌜ Rows n (now kind) (now first) (now second) ⌝ }
+    requires { ⌜ Kept n (tableAt (now kind) (now first) (now second)) rep ⌝ }
+    requires { ⌜ c < n ⌝ }
+    ensures { λ r. ⌜ (r ≡ false → Alone (tableAt (now (kind .entry)) (now (first .entry)) (now (second .entry))) rep (now (seen .entry)) c n) ⌝ }
+{
+    let mut d = 0;
+    while d < n {
+        if may(kind, first, second, n, rep, seen, c, d) {
+            return true;
+        }
+        d += 1;
+    }
+    false
+}
+
+// Is c to be marked as built, as equal to a cell that is seen?
+pub fn equals<'a>(
+    kind: &'a [u8; 128],
+    first: &'a [u8; 128],
+    second: &'a [u8; 128],
+    n: usize,
+    rep: [u8; 129],
+    seen: &'a [u8; 129],
+    built: &'a [u8; 129],
+    c: usize,
+) -> bool
+    requires { ⌜ Rows n (now kind) (now first) (now second) ⌝ }
+    requires { ⌜ Kept n (tableAt (now kind) (now first) (now second)) rep ⌝ }
+    requires { ⌜ c < n ⌝ }
+    ensures { λ r. ⌜ EqualTold (tableAt (now (kind .entry)) (now (first .entry)) (now (second .entry))) n rep (now (seen .entry)) (now (built .entry)) c r ⌝ }
+{
+    if class_of(&rep, c) != c {
+        return false;
+    }
+    if built[c] == 1 {
+        return false;
+    }
+    meets(kind, first, second, n, rep, seen, c)
+}
+
+// Marks as built what may be equal to a cell that is seen.
+pub fn equal<'a>(
+    kind: &'a [u8; 128],
+    first: &'a [u8; 128],
+    second: &'a [u8; 128],
+    n: usize,
+    rep: [u8; 129],
+    seen: &'a [u8; 129],
+    start: [u8; 129],
+) -> Row
+    requires { ⌜ Rows n (now kind) (now first) (now second) ⌝ }
+    requires { ⌜ Kept n (tableAt (now kind) (now first) (now second)) rep ⌝ }
+    requires { ⌜ Marked rep start ⌝ }
+    ensures { λ r. ⌜ Equalling (tableAt (now (kind .entry)) (now (first .entry)) (now (second .entry))) n rep (now (seen .entry)) start (r .marks) (r .changed) n ⌝ }
+{
+    let mut m = start;
+    let mut changed = false;
+    let mut c = 0;
+    while c < n {
+        if equals(kind, first, second, n, rep, seen, &m, c) {
+            m[c] = 1;
+            changed = true;
+        }
+        c += 1;
+    }
+    Row {
+        marks: m,
+        changed: changed,
+    }
+}
