@@ -19,7 +19,7 @@ import exchanges
 import reference
 from reference import MOST, OWN, Refused
 
-LANDED = ["files"]
+LANDED = ["files", "marks", "reduce", "equate", "run", "list"]
 FOLDER = os.path.join(os.path.dirname(os.path.dirname(os.path.abspath(__file__))), "crates", "vectors")
 WIDE = 1000                       # a room that every reply fits
 EN = b"EN"
