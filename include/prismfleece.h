@@ -27,8 +27,20 @@ extern "C" {
  * equals (its own number: free), for any other cell its own number. 0: no values make them equal. Refusals 5 (place: the cell count) and 9. */
 uint64_t prismfleece_equate(const uint8_t *file, size_t file_len, size_t a, size_t b, uint8_t *out, size_t out_len);
 
+/* Values of the variables under which the intruder can make each message asked of him from what he had learnt by then: one byte per cell, for a variable
+ * the number of a cell that is no variable, or 255 for name 0; for any other cell its own number. 0: there are no such values. Refusal 9. */
+uint64_t prismfleece_run(const uint8_t *file, size_t file_len, uint8_t *out, size_t out_len);
+
+/* Is a value list (as prismfleece_run writes it, from anyone) right? 1: right, 0: wrong (also if following it comes round). Refusal 10: place is the cell
+ * count if the length is not that, else the number of the first entry in bad form. */
+uint64_t prismfleece_check(const uint8_t *file, size_t file_len, const uint8_t *list, size_t list_len);
+
 /* One byte per cell of a file without variables: 1 if its message can be built from all messages that LN events teach, else 0. Refusals 8 and 9. */
 uint64_t prismfleece_marks(const uint8_t *file, size_t file_len, uint8_t *out, size_t out_len);
+
+/* The reduced file of a file without variables: two files have equal ones, byte by byte, exactly if what they teach lets him build the same messages.
+ * At most 898 bytes. Refusals 8 and 9. */
+uint64_t prismfleece_reduce(const uint8_t *file, size_t file_len, uint8_t *out, size_t out_len);
 
 /* The number of a refusal, 0 if the reply is none. */
 static inline unsigned prismfleece_number(uint64_t reply) { return (unsigned)(reply >> 32); }

@@ -8,8 +8,6 @@ use lib.ListN.{getD}
 use Rattle.casefile.proofs.VariableLaws.{variable-at, variable-none}
 use Rattle.casefile.proofs.first_variable.Statement.{statement}
 use Rattle.casefile.proofs.first_variable.Tie as tie
-use Rattle.casefile.proofs.first_variable.Reads as reads
-use Rattle.casefile.proofs.first_variable.Lts as lts
 
 abbrev Inv-loop : tie.InvT-loop
 Inv-loop kind n i₀ i = (i ≤ n) × ((j : ℕ) → j < i → getD kind j 0 ≡ 1 → ⊥)
@@ -17,33 +15,26 @@ Inv-loop kind n i₀ i = (i ≤ n) × ((j : ℕ) → j < i → getD kind j 0 ≡
 abbrev μ-loop : tie.MeasureT-loop
 μ-loop kind n i₀ i = n - i
 
--- src/lib.rt:27:5
 loop-holds : tie.Need-loop-holds Inv-loop μ-loop
 loop-holds c = (search needs, λ j h. absurd (omega arith))
 
--- src/lib.rt:28:12
 element-copy-out-if1 : tie.Need-element-copy-out-if1 Inv-loop μ-loop
 element-copy-out-if1 c = omega arith
 
--- src/lib.rt:28:44
 mul-t8 : tie.Need-mul-t8 Inv-loop μ-loop
 mul-t8 c = omega arith
 
--- src/lib.rt:28:27
 returns : tie.Need-returns Inv-loop μ-loop
 returns c =
     let l = c .before .before .before in
     λ cells e z. variable-at (now (l .before .args .kind)) cells e (l .loop .i) (c .if1 .taken) (l .loop .inv .1)
 
--- src/lib.rt:29:9
 add-i : tie.Need-add-i Inv-loop μ-loop
 add-i c = omega arith
 
--- src/lib.rt:27:5
 loop-less : tie.Need-loop-less Inv-loop μ-loop
 loop-less c = omega arith
 
--- src/lib.rt:27:5
 loop-again : tie.Need-loop-again Inv-loop μ-loop
 loop-again c =
     let l = c .before .before .before in (
@@ -54,7 +45,6 @@ loop-again c =
       ],
     )
 
--- src/lib.rt:22:1
 returns-2 : tie.Need-returns-2 Inv-loop μ-loop
 returns-2 c =
     let l = c .before in

@@ -7,30 +7,19 @@ use Rattle.casefile.proofs.CaseLaws.{part-length, table-lower, table-fe
 use borrow.Author.Needs.{needs}
 use Rattle.casefile.proofs.read_case.Statement.{statement}
 use Rattle.casefile.proofs.read_case.Tie as tie
-use Rattle.casefile.proofs.read_case.Reads as reads
-use Rattle.casefile.proofs.read_case.Lts as lts
-use Rattle.casefile.proofs.cells.read_cells.Reads as read-cells-reads
-use Rattle.casefile.proofs.events.read_events.Reads as read-events-reads
-use Rattle.casefile.proofs.first_variable.Reads as first-variable-reads
-use Rattle.casefile.proofs.refused.Reads as refused-reads
 
--- src/lib.rt:44:9
 read-cells-requires : tie.Need-read-cells-requires
 read-cells-requires c κs = search needs
 
--- src/lib.rt:49:23
 enum-known-stop : tie.Need-enum-known-stop
 enum-known-stop c = search needs
 
--- src/lib.rt:49:34
 refused-requires : tie.Need-refused-requires
 refused-requires c κs = search needs
 
--- src/lib.rt:51:43
 enum-told : tie.Need-enum-told
 enum-told c = search needs
 
--- src/lib.rt:51:43
 sub-read-events : tie.Need-sub-read-events
 sub-read-events c =
     let r = c .before .before .before in
@@ -40,7 +29,6 @@ sub-read-events c =
     let cut = subst (λ s. cellsRead file s at t) (c .enum-told .given .1) (r .read-cells .ensures) in
     cut .place
 
--- src/lib.rt:51:43
 part-read-events-start : tie.Need-part-read-events-start
 part-read-events-start c =
     let r = c .before .before .before in
@@ -50,11 +38,9 @@ part-read-events-start c =
     let cut = subst (λ s. cellsRead file s at t) (c .enum-told .given .1) (r .read-cells .ensures) in
     cut .place
 
--- src/lib.rt:51:43
 part-read-events-end : tie.Need-part-read-events-end
 part-read-events-end c = search needs
 
--- src/lib.rt:51:17
 read-events-requires : tie.Need-read-events-requires
 read-events-requires c κs =
     let r = c .before .before .before .before in
@@ -65,19 +51,15 @@ read-events-requires c κs =
     let e = part-length file at t cut in
     (table-lower file at t cut, (table-few file at t cut, omega arith))
 
--- src/lib.rt:55:34
 enum-known-verdict : tie.Need-enum-known-verdict
 enum-known-verdict c = search needs
 
--- src/lib.rt:55:52
 refused-requires-2 : tie.Need-refused-requires-2
 refused-requires-2 c κs = search needs
 
--- src/lib.rt:56:54
 enum-told-2 : tie.Need-enum-told-2
 enum-told-2 c = search needs
 
--- src/lib.rt:56:109
 first-variable-requires : tie.Need-first-variable-requires
 first-variable-requires c κs =
     let r = c .before .before .before .before .before .before .before .before .before .before in
@@ -87,7 +69,6 @@ first-variable-requires c κs =
     let cut = subst (λ s. cellsRead file s at t) (c .before .before .before .before .before .before .before .enum-told .given .1) (r .read-cells .ensures) in
     table-few file at t cut
 
--- src/lib.rt:41:1
 returns : tie.Need-returns
 returns c =
     let r = c .before .before .before .before .before in
@@ -96,7 +77,6 @@ returns c =
     let t = r .read-cells .result .table in
     c .refused .ensures ∙ sym (ap caseOf (subst (λ s. cellsRead file s at t) (c .before .before .stop .given .1) (r .read-cells .ensures)))
 
--- src/lib.rt:41:1
 returns-2 : tie.Need-returns-2
 returns-2 c =
     let e = c .before .before .before .before .before in
@@ -108,7 +88,6 @@ returns-2 c =
     let cut = subst (λ s. cellsRead file s at t) (o .enum-told .given .1) (r .read-cells .ensures) in
     c .refused2 .ensures ∙ reply-refused file at t cut (e .read-events .result) (e .read-events .ensures) _ _ (c .before .before .verdict .given .1)
 
--- src/lib.rt:41:1
 returns-3 : tie.Need-returns-3
 returns-3 c =
     let u = c .before .before .before in

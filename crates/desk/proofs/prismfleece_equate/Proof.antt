@@ -5,66 +5,50 @@ use Rattle.desk.proofs.EquateLaws.{EquateSmall, equate-small}
 use borrow.Author.Needs.{needs}
 use Rattle.desk.proofs.prismfleece_equate.Statement.{statement}
 use Rattle.desk.proofs.prismfleece_equate.Tie as tie
-use Rattle.desk.proofs.prismfleece_equate.Reads as reads
-use Rattle.desk.proofs.prismfleece_equate.Lts as lts
-use Rattle.desk.proofs.refusal.Reads as refusal-reads
-use Rattle.equating.proofs.equate.Reads as equate-reads
 
--- src/lib.rt:22:9
 equate-requires : tie.Need-equate-requires
 equate-requires c κs = search needs
 
--- src/lib.rt:24:26
 enum-known-reply : tie.Need-enum-known-reply
 enum-known-reply c = search needs
 
--- src/lib.rt:24:44
 refusal-requires : tie.Need-refusal-requires
 refusal-requires c κs =
     let e = c .before .before .before .before .before in
     let s = subst EquateSmall (c .before .reply .given .1) (equate-small _ _ _ _ (e .equate .result) _ (e .equate .ensures)) in
     s .1
 
--- src/lib.rt:25:24
 enum-told : tie.Need-enum-told
 enum-told c = search needs
 
--- src/lib.rt:26:25
 enum-known-reply-2 : tie.Need-enum-known-reply-2
 enum-known-reply-2 c = search needs
 
--- src/lib.rt:26:31
 add-result : tie.Need-add-result
 add-result c =
     let e = c .before .before .before .before .before in
     let s = subst EquateSmall (c .before .reply2 .given .1) (equate-small _ _ _ _ (e .equate .result) _ (e .equate .ensures)) in
     omega (arith, s)
 
--- src/lib.rt:18:1
 same-length : tie.Need-same-length
 same-length c = search needs
 
--- src/lib.rt:18:1
 returns : tie.Need-returns
 returns c =
     let e = c .before .before .before .before .before .before in
     (e .equate .result, e .equate .ensures, c .refusal .ensures ∙ sym (ap equateNumber (c .before .before .reply .given .1)))
 
--- src/lib.rt:18:1
 same-length-2 : tie.Need-same-length-2
 same-length-2 c = search needs
 
--- src/lib.rt:18:1
 returns-2 : tie.Need-returns-2
 returns-2 c =
     let e = c .before .before .before .before in
     (e .equate .result, e .equate .ensures, sym (ap equateNumber (c .enum-told .given .1)))
 
--- src/lib.rt:18:1
 same-length-3 : tie.Need-same-length-3
 same-length-3 c = search needs
 
--- src/lib.rt:18:1
 returns-3 : tie.Need-returns-3
 returns-3 c =
     let e = c .before .before .before .before .before in

@@ -5,52 +5,39 @@ use Rattle.desk.proofs.MarksLaws.{MarksSmall, marks-small}
 use borrow.Author.Needs.{needs}
 use Rattle.desk.proofs.prismfleece_marks.Statement.{statement}
 use Rattle.desk.proofs.prismfleece_marks.Tie as tie
-use Rattle.desk.proofs.prismfleece_marks.Reads as reads
-use Rattle.desk.proofs.prismfleece_marks.Lts as lts
-use Rattle.building.proofs.build_marks.Reads as build-marks-reads
-use Rattle.desk.proofs.refusal.Reads as refusal-reads
 
--- src/lib.rt:35:9
 build-marks-requires : tie.Need-build-marks-requires
 build-marks-requires c κs = search needs
 
--- src/lib.rt:37:25
 enum-known-reply : tie.Need-enum-known-reply
 enum-known-reply c = search needs
 
--- src/lib.rt:37:43
 refusal-requires : tie.Need-refusal-requires
 refusal-requires c κs =
     let e = c .before .before .before .before .before in
     let s = subst MarksSmall (c .before .reply .given .1) (marks-small _ _ (e .build-marks .result) _ (e .build-marks .ensures)) in
     s .1
 
--- src/lib.rt:38:23
 enum-known-reply-2 : tie.Need-enum-known-reply-2
 enum-known-reply-2 c = search needs
 
--- src/lib.rt:38:29
 add-result : tie.Need-add-result
 add-result c =
     let e = c .before .before .before .before .before in
     let s = subst MarksSmall (c .before .reply2 .given .1) (marks-small _ _ (e .build-marks .result) _ (e .build-marks .ensures)) in
     omega (arith, s)
 
--- src/lib.rt:31:1
 same-length : tie.Need-same-length
 same-length c = search needs
 
--- src/lib.rt:31:1
 returns : tie.Need-returns
 returns c =
     let e = c .before .before .before .before .before .before in
     (e .build-marks .result, e .build-marks .ensures, c .refusal .ensures ∙ sym (ap marksNumber (c .before .before .reply .given .1)))
 
--- src/lib.rt:31:1
 same-length-2 : tie.Need-same-length-2
 same-length-2 c = search needs
 
--- src/lib.rt:31:1
 returns-2 : tie.Need-returns-2
 returns-2 c =
     let e = c .before .before .before .before .before in

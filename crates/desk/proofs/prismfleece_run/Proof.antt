@@ -5,66 +5,50 @@ use Rattle.desk.proofs.RunLaws.{RunSmall, run-small}
 use borrow.Author.Needs.{needs}
 use Rattle.desk.proofs.prismfleece_run.Statement.{statement}
 use Rattle.desk.proofs.prismfleece_run.Tie as tie
-use Rattle.desk.proofs.prismfleece_run.Reads as reads
-use Rattle.desk.proofs.prismfleece_run.Lts as lts
-use Rattle.desk.proofs.refusal.Reads as refusal-reads
-use Rattle.running.proofs.run.Reads as run-reads
 
--- src/lib.rt:38:9
 run-requires : tie.Need-run-requires
 run-requires c κs = search needs
 
--- src/lib.rt:40:25
 enum-known-reply : tie.Need-enum-known-reply
 enum-known-reply c = search needs
 
--- src/lib.rt:40:43
 refusal-requires : tie.Need-refusal-requires
 refusal-requires c κs =
     let e = c .before .before .before .before .before in
     let s = subst RunSmall (c .before .reply .given .1) (run-small _ _ (e .run .result) _ (e .run .ensures)) in
     s .1
 
--- src/lib.rt:41:23
 enum-told : tie.Need-enum-told
 enum-told c = search needs
 
--- src/lib.rt:42:21
 enum-known-reply-2 : tie.Need-enum-known-reply-2
 enum-known-reply-2 c = search needs
 
--- src/lib.rt:42:27
 add-result : tie.Need-add-result
 add-result c =
     let e = c .before .before .before .before .before in
     let s = subst RunSmall (c .before .reply2 .given .1) (run-small _ _ (e .run .result) _ (e .run .ensures)) in
     omega (arith, s)
 
--- src/lib.rt:34:1
 same-length : tie.Need-same-length
 same-length c = search needs
 
--- src/lib.rt:34:1
 returns : tie.Need-returns
 returns c =
     let e = c .before .before .before .before .before .before in
     (e .run .result, e .run .ensures, c .refusal .ensures ∙ sym (ap runNumber (c .before .before .reply .given .1)))
 
--- src/lib.rt:34:1
 same-length-2 : tie.Need-same-length-2
 same-length-2 c = search needs
 
--- src/lib.rt:34:1
 returns-2 : tie.Need-returns-2
 returns-2 c =
     let e = c .before .before .before .before in
     (e .run .result, e .run .ensures, sym (ap runNumber (c .enum-told .given .1)))
 
--- src/lib.rt:34:1
 same-length-3 : tie.Need-same-length-3
 same-length-3 c = search needs
 
--- src/lib.rt:34:1
 returns-3 : tie.Need-returns-3
 returns-3 c =
     let e = c .before .before .before .before .before in

@@ -5,10 +5,6 @@ use Rattle.reducing.proofs.RunLaws.{run-given, run-plans}
 use Rattle.model.specs.Stored.{runAt}
 use Rattle.reducing.proofs.plan_run.Statement.{statement}
 use Rattle.reducing.proofs.plan_run.Tie as tie
-use Rattle.reducing.proofs.plan_run.Reads as reads
-use Rattle.reducing.proofs.plan_run.Lts as lts
-use Rattle.knowledge.proofs.heard.open_heard.Reads as open-heard-reads
-use Rattle.reducing.proofs.make_plan.Reads as make-plan-reads
 
 open-heard-requires : tie.Need-open-heard-requires
 open-heard-requires c κs = search needs

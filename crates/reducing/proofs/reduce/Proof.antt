@@ -9,12 +9,6 @@ use Rattle.reducing.proofs.PromiseLaws.{promise-refused, promise-variab
 use Rattle.reducing.proofs.CaseLaws.{CaseFile, case-refused, case-accepted, case-variable, case-rows, case-solid, case-events, answer-short, answer-reduced}
 use Rattle.reducing.proofs.reduce.Statement.{statement}
 use Rattle.reducing.proofs.reduce.Tie as tie
-use Rattle.reducing.proofs.reduce.Reads as reads
-use Rattle.reducing.proofs.reduce.Lts as lts
-use Rattle.casefile.proofs.read_case.Reads as read-case-reads
-use Rattle.reducing.proofs.needed.Reads as needed-reads
-use Rattle.reducing.proofs.plan_run.Reads as plan-run-reads
-use Rattle.reducing.proofs.write_plan.Reads as write-plan-reads
 
 -- The file's bytes, the buffer's, and the reader's reply.
 abbrev bytes : tie.After-read-case → List ℕ
@@ -34,15 +28,12 @@ rows : (c : tie.After-enum-told) →
     Rows (reply (c .before .before) .table .cells) (reply (c .before .before) .table .kind) (reply (c .before .before) .table .first) (reply (c .before .before) .table .second)
 rows c = case-rows (case c) (λ i. omega (arith, c .before .before .before .before .shared-slice-known .given i))
 
--- src/lib.rt:103:9
 read-case-requires : tie.Need-read-case-requires
 read-case-requires c κs = search needs
 
--- src/lib.rt:105:29
 enum-known-verdict : tie.Need-enum-known-verdict
 enum-known-verdict c = search needs
 
--- src/lib.rt:106:9
 returns : tie.Need-returns
 returns c =
     let r = c .before .before .before in
@@ -51,11 +42,9 @@ returns c =
 enum-told : tie.Need-enum-told
 enum-told c = search needs
 
--- src/lib.rt:109:22
 enum-known-variable : tie.Need-enum-known-variable
 enum-known-variable c = search needs
 
--- src/lib.rt:110:9
 returns-2 : tie.Need-returns-2
 returns-2 c =
     let d = c .before .before .before in
@@ -65,18 +54,15 @@ returns-2 c =
 enum-told-2 : tie.Need-enum-told-2
 enum-told-2 c = search needs
 
--- src/lib.rt:114:9
 plan-run-requires : tie.Need-plan-run-requires
 plan-run-requires c κs =
     let v = c .before .before .before .before .before .before .before .before .before in
     let d = v .before .before in
     (rows d, (case-solid (case d) (v .enum-told2 .given .1), case-events (case d)))
 
--- src/lib.rt:115:9
 needed-requires : tie.Need-needed-requires
 needed-requires c κs = search needs
 
--- src/lib.rt:117:9
 returns-3 : tie.Need-returns-3
 returns-3 c =
     let o = c .before .before in
@@ -84,15 +70,12 @@ returns-3 c =
     let d = v .before .before in
     answer-short (case d) (v .enum-told2 .given .1) (o .plan-run .ensures .0) (o .plan-run .ensures .1) (buffer (d .before .before)) _ (c .before .needed .ensures .1) (c .if1 .taken)
 
--- src/lib.rt:119:5
 write-plan-requires : tie.Need-write-plan-requires
 write-plan-requires c κs = search needs
 
--- src/lib.rt:100:1
 same-length : tie.Need-same-length
 same-length c = search needs
 
--- src/lib.rt:100:1
 returns-4 : tie.Need-returns-4
 returns-4 c =
     let y = c .before .before in

@@ -5,24 +5,16 @@ use Rattle.running.proofs.PromiseLaws.{case-refused, case-accepted, kep
 use borrow.Author.Needs.{needs}
 use Rattle.running.proofs.run.Statement.{statement}
 use Rattle.running.proofs.run.Tie as tie
-use Rattle.running.proofs.run.Reads as reads
-use Rattle.running.proofs.run.Lts as lts
-use Rattle.casefile.proofs.read_case.Reads as read-case-reads
-use Rattle.running.proofs.run_cells.Reads as run-cells-reads
 
--- src/lib.rt:65:9
 read-case-requires : tie.Need-read-case-requires
 read-case-requires c κs = search needs
 
--- src/lib.rt:70:26
 enum-known-verdict : tie.Need-enum-known-verdict
 enum-known-verdict c = search needs
 
--- src/lib.rt:71:40
 enum-told : tie.Need-enum-told
 enum-told c = search needs
 
--- src/lib.rt:71:30
 run-cells-requires : tie.Need-run-cells-requires
 run-cells-requires c κs =
     let told = c .before .before .before .before .before .before .before .before in
@@ -34,7 +26,6 @@ run-cells-requires c κs =
     let k = case-accepted (readFile file) (r .read-case .result) (r .read-case .ensures) (told .enum-told .given .1) in
     (kept-rows file t e k (λ i. omega (arith, s .shared-slice-known .given i)), (kept-below file t e k, kept-formed file t e k))
 
--- src/lib.rt:62:1
 returns : tie.Need-returns
 returns c =
     let r = c .before .before .before .before .before in
@@ -42,11 +33,9 @@ returns c =
     let file = now (a .file) in
     promise-refused file (now (a .out)) _ _ (case-refused (readFile file) (r .read-case .result) (r .read-case .ensures) _ _ (c .before .verdict .given .1))
 
--- src/lib.rt:62:1
 same-length : tie.Need-same-length
 same-length c = search needs
 
--- src/lib.rt:62:1
 returns-2 : tie.Need-returns-2
 returns-2 c =
     let q = c .before .before in

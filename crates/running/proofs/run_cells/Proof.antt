@@ -5,37 +5,27 @@ use Rattle.running.proofs.PromiseLaws.{reply-short, reply-no, reply-yes
 use borrow.Author.Needs.{needs}
 use Rattle.running.proofs.run_cells.Statement.{statement}
 use Rattle.running.proofs.run_cells.Tie as tie
-use Rattle.running.proofs.run_cells.Reads as reads
-use Rattle.running.proofs.run_cells.Lts as lts
-use Rattle.running.proofs.write_list.Reads as write-list-reads
-use Rattle.solving.proofs.search.solve.Reads as solve-reads
 
--- src/lib.rt:50:9
 returns : tie.Need-returns
 returns c =
     let a = c .before .before .args in
     reply-short (a .n) (tableAt (now (a .kind)) (now (a .first)) (now (a .second))) (runAt (a .count) (now (a .asks)) (now (a .aims))) (now (a .out)) (c .if1 .taken)
 
--- src/lib.rt:52:9
 solve-requires : tie.Need-solve-requires
 solve-requires c κs = search needs
 
--- src/lib.rt:54:9
 returns-2 : tie.Need-returns-2
 returns-2 c =
     let v = c .before .before in
     let a = v .before .before .before .args in
     reply-no (a .n) (tableAt (now (a .kind)) (now (a .first)) (now (a .second))) (runAt (a .count) (now (a .asks)) (now (a .aims))) (now (a .out)) (v .before .if1 .left) (v .solve .result) (v .solve .ensures) (not-true _ (c .if2 .taken))
 
--- src/lib.rt:57:5
 write-list-requires : tie.Need-write-list-requires
 write-list-requires c κs = search needs
 
--- src/lib.rt:34:1
 same-length : tie.Need-same-length
 same-length c = search needs
 
--- src/lib.rt:34:1
 returns-3 : tie.Need-returns-3
 returns-3 c =
     let w = c .before .before in

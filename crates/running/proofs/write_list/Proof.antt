@@ -8,8 +8,6 @@ use lib.ListN.{length, take, drop, length-set}
 use Rattle.running.proofs.PromiseLaws.{laid-next, laid-all}
 use Rattle.running.proofs.write_list.Statement.{statement}
 use Rattle.running.proofs.write_list.Tie as tie
-use Rattle.running.proofs.write_list.Reads as reads
-use Rattle.running.proofs.write_list.Lts as lts
 
 abbrev Inv-loop : tie.InvT-loop
 Inv-loop n out₀ list i₀ out i = (i ≤ n) × (out ≡ take i list ++ drop i out₀) × (length out ≡ length out₀) × (length list ≡ 128)
@@ -17,27 +15,21 @@ Inv-loop n out₀ list i₀ out i = (i ≤ n) × (out ≡ take i list ++ drop i 
 abbrev μ-loop : tie.MeasureT-loop
 μ-loop n out₀ list i₀ out i = n - i
 
--- src/lib.rt:27:5
 loop-holds : tie.Need-loop-holds Inv-loop μ-loop
 loop-holds c = (omega arith, refl, refl, search needs)
 
--- src/lib.rt:28:18
 array-read-out : tie.Need-array-read-out Inv-loop μ-loop
 array-read-out c = omega arith
 
--- src/lib.rt:28:9
 slice-write-out : tie.Need-slice-write-out Inv-loop μ-loop
 slice-write-out c = omega (arith, c .before .loop .inv .2)
 
--- src/lib.rt:29:9
 add-i : tie.Need-add-i Inv-loop μ-loop
 add-i c = omega arith
 
--- src/lib.rt:27:5
 loop-less : tie.Need-loop-less Inv-loop μ-loop
 loop-less c = omega arith
 
--- src/lib.rt:27:5
 loop-again : tie.Need-loop-again Inv-loop μ-loop
 loop-again c =
     let l = c .before in
@@ -49,11 +41,9 @@ loop-again c =
       v .3,
     )
 
--- src/lib.rt:22:1
 same-length : tie.Need-same-length Inv-loop μ-loop
 same-length c = c .before .loop .inv .2
 
--- src/lib.rt:22:1
 returns : tie.Need-returns Inv-loop μ-loop
 returns c =
     let l = c .before in

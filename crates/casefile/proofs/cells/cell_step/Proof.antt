@@ -5,41 +5,28 @@ use Rattle.casefile.proofs.CellLaws.{Means, means, events-begun, fault-
 use borrow.Author.Needs.{needs}
 use Rattle.casefile.proofs.cells.cell_step.Statement.{statement}
 use Rattle.casefile.proofs.cells.cell_step.Tie as tie
-use Rattle.casefile.proofs.cells.cell_step.Reads as reads
-use Rattle.casefile.proofs.cells.cell_step.Lts as lts
-use Rattle.casefile.proofs.cells.section_of.Reads as section-of-reads
-use Rattle.casefile.proofs.cells.whole_cell.Reads as whole-cell-reads
-use Rattle.casefile.proofs.record.mark_at.Reads as mark-at-reads
 
--- src/cells.rt:96:9
 mark-at-requires : tie.Need-mark-at-requires
 mark-at-requires c κs = search needs
 
--- src/cells.rt:97:9
 section-of-requires : tie.Need-section-of-requires
 section-of-requires c κs = search needs
 
--- src/cells.rt:99:27
 enum-told : tie.Need-enum-told
 enum-told c = search needs
 
--- src/cells.rt:99:27
 whole-cell-requires : tie.Need-whole-cell-requires
 whole-cell-requires c κs = search needs
 
--- src/cells.rt:100:28
 enum-told-2 : tie.Need-enum-told-2
 enum-told-2 c = search needs
 
--- src/cells.rt:101:24
 enum-known-section : tie.Need-enum-known-section
 enum-known-section c = search needs
 
--- src/cells.rt:93:1
 returns : tie.Need-returns
 returns c = search needs
 
--- src/cells.rt:93:1
 returns-2 : tie.Need-returns-2
 returns-2 c =
     let o = c .before .before in
@@ -48,7 +35,6 @@ returns-2 c =
     events-begun (drop (a .at) (now (a .file))) (m .mark-at .result) (subst (Means (drop (a .at) (now (a .file)))) (sym (m .mark-at .ensures)) (means (drop (a .at) (now (a .file)))))
     (sym (o .section-of .ensures) ∙ c .enum-told2 .given .1)
 
--- src/cells.rt:93:1
 returns-3 : tie.Need-returns-3
 returns-3 c =
     let o = c .before .before .before in

@@ -5,34 +5,26 @@ use Rattle.casefile.specs.Cells.{partsBelow}
 use borrow.Author.Needs.{needs}
 use Rattle.casefile.proofs.cells.parts_below.Statement.{statement}
 use Rattle.casefile.proofs.cells.parts_below.Tie as tie
-use Rattle.casefile.proofs.cells.parts_below.Reads as reads
-use Rattle.casefile.proofs.cells.parts_below.Lts as lts
 
--- src/cells.rt:66:21
 returns : tie.Need-returns
 unfolding partsBelow
 returns c = yes _ (lt-ltb _ _ (c .if1 .taken))
 
--- src/cells.rt:67:13
 cast-if2 : tie.Need-cast-if2
 cast-if2 c = search needs
 
--- src/cells.rt:67:33
 returns-2 : tie.Need-returns-2
 unfolding partsBelow
 returns-2 c = no _ (le-ltb _ _ (c .before .before .if1 .left)) (yes _ (le-leb _ _ (c .if2 .taken)))
 
--- src/cells.rt:68:22
 returns-3 : tie.Need-returns-3
 unfolding partsBelow
 returns-3 c =
     no _ (le-ltb _ _ (c .before .before .before .before .if1 .left)) (no _ (lt-leb _ _ (c .before .before .if2 .left)) (yes _ (eq-eqb _ _ (c .if3 .taken))))
 
--- src/cells.rt:69:6
 cast-result : tie.Need-cast-result
 cast-result c = search needs
 
--- src/cells.rt:63:1
 returns-4 : tie.Need-returns-4
 unfolding partsBelow
 returns-4 c =

@@ -8,12 +8,6 @@ use Rattle.casefile.specs.Cells.{cellSays, Next, sizeOf}
 use Rattle.casefile.proofs.CellLoop.{CellsSoFar, cells-start, cells-events, cells-refused, cells-next, step-fits}
 use Rattle.casefile.proofs.cells.read_cells.Statement.{statement}
 use Rattle.casefile.proofs.cells.read_cells.Tie as tie
-use Rattle.casefile.proofs.cells.read_cells.Reads as reads
-use Rattle.casefile.proofs.cells.read_cells.Lts as lts
-use Rattle.casefile.proofs.cells.cell_step.Reads as cell-step-reads
-use Rattle.casefile.proofs.cells.empty_table.Reads as empty-table-reads
-use Rattle.casefile.proofs.cells.size_of.Reads as size-of-reads
-use Rattle.casefile.proofs.cells.with_cell.Reads as with-cell-reads
 
 abbrev Inv-loop : tie.InvT-loop
 Inv-loop file t₀ at₀ t at = CellsSoFar file at t
@@ -21,23 +15,18 @@ Inv-loop file t₀ at₀ t at = CellsSoFar file at t
 abbrev μ-loop : tie.MeasureT-loop
 μ-loop file t₀ at₀ t at = 128 - t .cells
 
--- src/cells.rt:129:9
 empty-table-requires : tie.Need-empty-table-requires Inv-loop μ-loop
 empty-table-requires c κs = search needs
 
--- src/cells.rt:131:5
 loop-holds : tie.Need-loop-holds Inv-loop μ-loop
 loop-holds c = cells-start (now (c .before .before .args .file)) (c .empty-table .result) (c .empty-table .ensures)
 
--- src/cells.rt:133:13
 cell-step-requires : tie.Need-cell-step-requires Inv-loop μ-loop
 cell-step-requires c κs = search needs
 
--- src/cells.rt:135:54
 enum-told : tie.Need-enum-told Inv-loop μ-loop
 enum-told c = search needs
 
--- src/cells.rt:135:33
 returns : tie.Need-returns Inv-loop μ-loop
 returns c =
     let o = c .before .before in
@@ -45,11 +34,9 @@ returns c =
     cells-events (now (l .before .before .before .args .file)) (l .loop .at) (l .loop .t) (l .loop .inv)
     (subst (cellSays (drop (l .loop .at) (now (l .before .before .before .args .file))) (l .loop .t .cells)) (c .enum-told .given .1) (o .cell-step .ensures))
 
--- src/cells.rt:136:31
 enum-known-step : tie.Need-enum-known-step Inv-loop μ-loop
 enum-known-step c = search needs
 
--- src/cells.rt:136:42
 returns-2 : tie.Need-returns-2 Inv-loop μ-loop
 returns-2 c =
     let o = c .before .before .before in
@@ -57,11 +44,9 @@ returns-2 c =
     cells-refused (now (l .before .before .before .args .file)) (l .loop .at) (l .loop .t) (l .loop .inv) _
     (subst (cellSays (drop (l .loop .at) (now (l .before .before .before .args .file))) (l .loop .t .cells)) (c .before .step .given .1) (o .cell-step .ensures))
 
--- src/cells.rt:137:28
 enum-known-step-2 : tie.Need-enum-known-step-2 Inv-loop μ-loop
 enum-known-step-2 c = search needs
 
--- src/cells.rt:138:17
 with-cell-requires : tie.Need-with-cell-requires Inv-loop μ-loop
 with-cell-requires c κs =
     let k = c in
@@ -72,11 +57,9 @@ with-cell-requires c κs =
     let r = x .room in
     omega arith
 
--- src/cells.rt:139:27
 size-of-requires : tie.Need-size-of-requires Inv-loop μ-loop
 size-of-requires c κs = search needs
 
--- src/cells.rt:139:22
 add-at : tie.Need-add-at Inv-loop μ-loop
 add-at c =
     let k = c .before .before in
@@ -88,7 +71,6 @@ add-at c =
     let f = step-fits file (l .loop .at) (l .loop .t) (l .loop .inv) _ x in
     omega arith
 
--- src/cells.rt:131:5
 loop-less : tie.Need-loop-less Inv-loop μ-loop
 loop-less c =
     let k = c .before .before in
@@ -100,7 +82,6 @@ loop-less c =
     let e = ap (λ u. u .cells) (c .before .with-cell .ensures) in
     omega arith
 
--- src/cells.rt:131:5
 loop-again : tie.Need-loop-again Inv-loop μ-loop
 loop-again c =
     let k = c .before .before in

@@ -3,14 +3,10 @@ use borrow.Author.Tests.{lt-ltb, le-ltb, le-leb, lt-leb, eq-eqb, ne-eqb}
 use Rattle.model.proofs.Pick.{yes, no}
 use Rattle.casefile.proofs.cells.size_of.Statement.{statement}
 use Rattle.casefile.proofs.cells.size_of.Tie as tie
-use Rattle.casefile.proofs.cells.size_of.Reads as reads
-use Rattle.casefile.proofs.cells.size_of.Lts as lts
 
--- src/cells.rt:73:1
 returns : tie.Need-returns
 returns c = yes _ (eq-eqb _ _ (c .if1 .taken))
 
--- src/cells.rt:73:1
 returns-2 : tie.Need-returns-2
 returns-2 c = no _ (ne-eqb _ _ (c .if1 .left)) refl
 

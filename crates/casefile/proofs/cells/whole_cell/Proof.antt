@@ -6,34 +6,24 @@ use Rattle.casefile.proofs.CellLaws.{says-room, says-full, says-cut, sa
 use borrow.Author.Needs.{needs}
 use Rattle.casefile.proofs.cells.whole_cell.Statement.{statement}
 use Rattle.casefile.proofs.cells.whole_cell.Tie as tie
-use Rattle.casefile.proofs.cells.whole_cell.Reads as reads
-use Rattle.casefile.proofs.cells.whole_cell.Lts as lts
-use Rattle.casefile.proofs.cells.cell_of.Reads as cell-of-reads
-use Rattle.casefile.proofs.cells.parts_below.Reads as parts-below-reads
-use Rattle.casefile.proofs.record.fields_at.Reads as fields-at-reads
 
--- src/cells.rt:85:19
 returns : tie.Need-returns
 returns c =
     let s = c .before .before in
     says-full (drop (s .args .at) (now (s .args .file))) (s .args .n) (s .args .mark) (s .pre .0) (s .pre .1) (c .if1 .taken)
 
--- src/cells.rt:86:9
 fields-at-requires : tie.Need-fields-at-requires
 fields-at-requires c κs =
     let s = c .before .before in
     let h = says-room (drop (s .args .at) (now (s .args .file))) (s .args .n) (s .args .mark) (s .pre .0) (s .pre .1) in
     omega (arith, length-drop (s .args .at) (now (s .args .file)))
 
--- src/cells.rt:87:23
 enum-known-fields : tie.Need-enum-known-fields
 enum-known-fields c = search needs
 
--- src/cells.rt:87:42
 enum-told : tie.Need-enum-told
 enum-told c = search needs
 
--- src/cells.rt:87:42
 returns-2 : tie.Need-returns-2
 returns-2 c =
     let o = c .before .before in
@@ -41,15 +31,12 @@ returns-2 c =
     says-cut (drop (s .args .at) (now (s .args .file))) (s .args .n) (s .args .mark) (s .pre .0) (s .pre .1) (o .before .if1 .left)
     (sym (o .fields-at .ensures) ∙ c .enum-told .given .1)
 
--- src/cells.rt:88:9
 cell-of-requires : tie.Need-cell-of-requires
 cell-of-requires c κs = search needs
 
--- src/cells.rt:89:8
 parts-below-requires : tie.Need-parts-below-requires
 parts-below-requires c κs = search needs
 
--- src/cells.rt:80:1
 returns-3 : tie.Need-returns-3
 returns-3 c =
     let p = c .before in
@@ -59,7 +46,6 @@ returns-3 c =
     says-next (drop (s .args .at) (now (s .args .file))) (s .args .n) (s .args .mark) (s .pre .0) (s .pre .1) (o .before .if1 .left) _
     (sym (o .fields-at .ensures) ∙ k .before .fields .given .1) (p .before .cell-of .result) (p .before .cell-of .ensures) (sym (c .if2 .taken) ∙ p .parts-below .ensures)
 
--- src/cells.rt:80:1
 returns-4 : tie.Need-returns-4
 returns-4 c =
     let p = c .before in

@@ -4,54 +4,40 @@ use Rattle.model.proofs.Pick.{yes, no}
 use borrow.Author.Needs.{needs}
 use Rattle.casefile.proofs.events.below_cells.Statement.{statement}
 use Rattle.casefile.proofs.events.below_cells.Tie as tie
-use Rattle.casefile.proofs.events.below_cells.Reads as reads
-use Rattle.casefile.proofs.events.below_cells.Lts as lts
 
--- src/events.rt:66:25
 enum-known-step : tie.Need-enum-known-step
 enum-known-step c = search needs
 
--- src/events.rt:66:35
 cast-if1 : tie.Need-cast-if1
 cast-if1 c = search needs
 
--- src/events.rt:67:26
 enum-known-step-2 : tie.Need-enum-known-step-2
 enum-known-step-2 c = search needs
 
--- src/events.rt:67:36
 cast-if2 : tie.Need-cast-if2
 cast-if2 c = search needs
 
--- src/events.rt:68:27
 enum-told : tie.Need-enum-told
 enum-told c = search needs
 
--- src/events.rt:69:28
 enum-known-step-3 : tie.Need-enum-known-step-3
 enum-known-step-3 c = search needs
 
--- src/events.rt:62:1
 returns : tie.Need-returns
 returns c = rw (c .before .before .step .given .1) (yes _ (lt-ltb _ _ (c .if1 .taken)))
 
--- src/events.rt:62:1
 returns-2 : tie.Need-returns-2
 returns-2 c = rw (c .before .before .step .given .1) (no _ (le-ltb _ _ (c .if1 .left)) refl)
 
--- src/events.rt:62:1
 returns-3 : tie.Need-returns-3
 returns-3 c = rw (c .before .before .step2 .given .1) (yes _ (lt-ltb _ _ (c .if2 .taken)))
 
--- src/events.rt:62:1
 returns-4 : tie.Need-returns-4
 returns-4 c = rw (c .before .before .step2 .given .1) (no _ (le-ltb _ _ (c .if2 .left)) refl)
 
--- src/events.rt:62:1
 returns-5 : tie.Need-returns-5
 returns-5 c = search needs
 
--- src/events.rt:62:1
 returns-6 : tie.Need-returns-6
 returns-6 c = rw (c .before .step3 .given .1)
 

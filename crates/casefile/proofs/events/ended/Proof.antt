@@ -7,28 +7,21 @@ use Rattle.model.proofs.Pick.{yes, no}
 use borrow.Author.Needs.{needs}
 use Rattle.casefile.proofs.events.ended.Statement.{statement}
 use Rattle.casefile.proofs.events.ended.Tie as tie
-use Rattle.casefile.proofs.events.ended.Reads as reads
-use Rattle.casefile.proofs.events.ended.Lts as lts
 
--- src/events.rt:170:12
 sub-if1 : tie.Need-sub-if1
 sub-if1 c = search needs
 
--- src/events.rt:170:50
 add-t8 : tie.Need-add-t8
 add-t8 c = search needs
 
--- src/events.rt:170:50
 add-t9 : tie.Need-add-t9
 add-t9 c = search needs
 
--- src/events.rt:165:1
 returns : tie.Need-returns
 returns c =
     let a = c .before .args in
     yes _ (lt-ltb 2 (length (drop (a .at) (now (a .rest)))) (omega (arith, length-drop (a .at) (now (a .rest)))))
 
--- src/events.rt:165:1
 returns-2 : tie.Need-returns-2
 returns-2 c =
     let a = c .before .args in

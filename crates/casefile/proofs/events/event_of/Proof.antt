@@ -1,70 +1,52 @@
 use borrow.Author.Needs.{needs}
 use Rattle.casefile.proofs.events.event_of.Statement.{statement}
 use Rattle.casefile.proofs.events.event_of.Tie as tie
-use Rattle.casefile.proofs.events.event_of.Reads as reads
-use Rattle.casefile.proofs.events.event_of.Lts as lts
 
--- src/events.rt:50:22
 enum-known-r : tie.Need-enum-known-r
 enum-known-r c = search needs
 
--- src/events.rt:51:29
 enum-told : tie.Need-enum-told
 enum-told c = search needs
 
--- src/events.rt:52:22
 enum-known-r-2 : tie.Need-enum-known-r-2
 enum-known-r-2 c = search needs
 
--- src/events.rt:53:22
 enum-known-r-3 : tie.Need-enum-known-r-3
 enum-known-r-3 c = search needs
 
--- src/events.rt:54:23
 enum-known-r-4 : tie.Need-enum-known-r-4
 enum-known-r-4 c = search needs
 
--- src/events.rt:55:22
 enum-known-r-5 : tie.Need-enum-known-r-5
 enum-known-r-5 c = search needs
 
--- src/events.rt:56:23
 enum-known-r-6 : tie.Need-enum-known-r-6
 enum-known-r-6 c = search needs
 
--- src/events.rt:57:24
 enum-told-2 : tie.Need-enum-told-2
 enum-told-2 c = search needs
 
--- src/events.rt:46:1
 returns : tie.Need-returns
 returns c = search needs
 
--- src/events.rt:46:1
 returns-2 : tie.Need-returns-2
 returns-2 c = search needs
 
--- src/events.rt:46:1
 returns-3 : tie.Need-returns-3
 returns-3 c = search needs
 
--- src/events.rt:46:1
 returns-4 : tie.Need-returns-4
 returns-4 c = search needs
 
--- src/events.rt:46:1
 returns-5 : tie.Need-returns-5
 returns-5 c = search needs
 
--- src/events.rt:46:1
 returns-6 : tie.Need-returns-6
 returns-6 c = rw (c .before .r5 .given .1)
 
--- src/events.rt:46:1
 returns-7 : tie.Need-returns-7
 returns-7 c = rw (c .before .r6 .given .1)
 
--- src/events.rt:46:1
 returns-8 : tie.Need-returns-8
 returns-8 c = search needs
 

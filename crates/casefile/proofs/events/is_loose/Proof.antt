@@ -9,9 +9,6 @@ use Rattle.theory.specs.Cells.{On}
 use Rattle.casefile.proofs.WithinLaws.{loose-at-true, loose-at-false}
 use Rattle.casefile.proofs.events.is_loose.Statement.{statement}
 use Rattle.casefile.proofs.events.is_loose.Tie as tie
-use Rattle.casefile.proofs.events.is_loose.Reads as reads
-use Rattle.casefile.proofs.events.is_loose.Lts as lts
-use Rattle.casefile.proofs.events.loose_at.Reads as loose-at-reads
 
 abbrev Inv-loop : tie.InvT-loop
 Inv-loop kind held made v₀ v = (v ≤ 128) × ((u : ℕ) → u < v → getD kind u 0 ≡ 1 → On held u → On made u)
@@ -19,42 +16,33 @@ Inv-loop kind held made v₀ v = (v ≤ 128) × ((u : ℕ) → u < v → getD ki
 abbrev μ-loop : tie.MeasureT-loop
 μ-loop kind held made v₀ v = 128 - v
 
--- src/events.rt:143:5
 loop-holds : tie.Need-loop-holds Inv-loop μ-loop
 loop-holds c = (search needs, λ u h. absurd (omega arith))
 
--- src/events.rt:144:21
 element-copy-out-loose-at : tie.Need-element-copy-out-loose-at Inv-loop μ-loop
 element-copy-out-loose-at c = omega arith
 
--- src/events.rt:144:30
 array-read-loose-at : tie.Need-array-read-loose-at Inv-loop μ-loop
 array-read-loose-at c = omega arith
 
--- src/events.rt:144:39
 array-read-loose-at-2 : tie.Need-array-read-loose-at-2 Inv-loop μ-loop
 array-read-loose-at-2 c = omega arith
 
--- src/events.rt:144:12
 loose-at-requires : tie.Need-loose-at-requires Inv-loop μ-loop
 loose-at-requires c κs = search needs
 
--- src/events.rt:144:50
 returns : tie.Need-returns Inv-loop μ-loop
 returns c =
     let l = c .before .before .before .before in
     let (k, h, m) = loose-at-true _ _ _ (sym (c .before .loose-at .ensures) ∙ c .if1 .taken) in
     (l .loop .v, k, h, m)
 
--- src/events.rt:145:9
 add-v : tie.Need-add-v Inv-loop μ-loop
 add-v c = omega arith
 
--- src/events.rt:143:5
 loop-less : tie.Need-loop-less Inv-loop μ-loop
 loop-less c = omega arith
 
--- src/events.rt:143:5
 loop-again : tie.Need-loop-again Inv-loop μ-loop
 loop-again c =
     let l = c .before .before .before .before in
@@ -66,7 +54,6 @@ loop-again c =
       ],
     )
 
--- src/events.rt:139:1
 returns-2 : tie.Need-returns-2 Inv-loop μ-loop
 returns-2 c = let l = c .before in λ u lt k h. l .loop .inv .1 u (omega arith) k h
 

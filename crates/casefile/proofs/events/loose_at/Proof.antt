@@ -4,20 +4,15 @@ use Rattle.model.proofs.Pick.{yes, no, into}
 use Rattle.casefile.specs.Events.{looseAt}
 use Rattle.casefile.proofs.events.loose_at.Statement.{statement}
 use Rattle.casefile.proofs.events.loose_at.Tie as tie
-use Rattle.casefile.proofs.events.loose_at.Reads as reads
-use Rattle.casefile.proofs.events.loose_at.Lts as lts
 
--- src/events.rt:133:20
 returns : tie.Need-returns
 unfolding looseAt
 returns c = no _ (ne-eqb _ _ (c .if1 .taken)) refl
 
--- src/events.rt:134:20
 returns-2 : tie.Need-returns-2
 unfolding looseAt
 returns-2 c = into _ (eq-eqb _ _ (c .before .if1 .left)) (no _ (ne-eqb _ _ (c .if2 .taken)) refl)
 
--- src/events.rt:130:1
 returns-3 : tie.Need-returns-3
 unfolding looseAt
 returns-3 c = into _ (eq-eqb _ _ (c .before .if1 .left)) (yes _ (eq-eqb _ _ (c .if2 .left)))

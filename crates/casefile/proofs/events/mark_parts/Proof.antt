@@ -2,29 +2,22 @@ use borrow.Author.Needs.{needs}
 use Rattle.casefile.proofs.WithinLaws.{part-first, part-second, mark-none, mark-one, mark-two}
 use Rattle.casefile.proofs.events.mark_parts.Statement.{statement}
 use Rattle.casefile.proofs.events.mark_parts.Tie as tie
-use Rattle.casefile.proofs.events.mark_parts.Reads as reads
-use Rattle.casefile.proofs.events.mark_parts.Lts as lts
 
--- src/events.rt:104:19
 returns : tie.Need-returns
 returns c = let a = c .before .args in mark-none (a .kind) (a .first) (a .second) (a .marks) (search needs) (c .if1 .taken)
 
--- src/events.rt:106:5
 array-write-m : tie.Need-array-write-m
 array-write-m c = let s = c .before in s .pre (s .args .second) (part-second (s .args .kind) (s .args .first) (s .args .second) (c .if1 .left))
 
--- src/events.rt:107:20
 returns-2 : tie.Need-returns-2
 returns-2 c =
     let s = c .before .before in
     let a = s .args in
     mark-one (a .kind) (a .first) (a .second) (a .marks) (search needs) (c .if2 .taken) (s .pre (a .second) (part-second (a .kind) (a .first) (a .second) (c .before .if1 .left)))
 
--- src/events.rt:108:5
 array-write-m-2 : tie.Need-array-write-m-2
 array-write-m-2 c = let s = c .before .before in s .pre (s .args .first) (part-first (s .args .kind) (s .args .first) (s .args .second) (c .before .if1 .left) (c .if2 .left))
 
--- src/events.rt:100:1
 returns-3 : tie.Need-returns-3
 returns-3 c =
     let s = c .before .before in

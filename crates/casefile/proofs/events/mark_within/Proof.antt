@@ -9,9 +9,6 @@ use Rattle.model.specs.Stored.{tableAt}
 use Rattle.casefile.proofs.WithinLaws.{Descent, descent-start, descent-marked, descent-passed, within-marked}
 use Rattle.casefile.proofs.events.mark_within.Statement.{statement}
 use Rattle.casefile.proofs.events.mark_within.Tie as tie
-use Rattle.casefile.proofs.events.mark_within.Reads as reads
-use Rattle.casefile.proofs.events.mark_within.Lts as lts
-use Rattle.casefile.proofs.events.mark_parts.Reads as mark-parts-reads
 
 abbrev Inv-loop : tie.InvT-loop
 Inv-loop kind first second c m₀ i₀ m i = Descent (tableAt kind first second) c m₀ i m
@@ -19,51 +16,40 @@ Inv-loop kind first second c m₀ i₀ m i = Descent (tableAt kind first second)
 abbrev μ-loop : tie.MeasureT-loop
 μ-loop kind first second c m₀ i₀ m i = i
 
--- src/events.rt:120:5
 array-write-m : tie.Need-array-write-m Inv-loop μ-loop
 array-write-m c = omega arith
 
--- src/events.rt:121:5
 add-i : tie.Need-add-i Inv-loop μ-loop
 add-i c = search needs
 
--- src/events.rt:122:5
 loop-holds : tie.Need-loop-holds Inv-loop μ-loop
 loop-holds c =
     let a = c .args in
     descent-start (tableAt (now (a .kind)) (now (a .first)) (now (a .second))) (a .c) _ (simp length-set (search needs))
 
--- src/events.rt:123:9
 sub-i : tie.Need-sub-i Inv-loop μ-loop
 sub-i c = omega arith
 
--- src/events.rt:124:12
 array-read-if1 : tie.Need-array-read-if1 Inv-loop μ-loop
 array-read-if1 c = omega arith
 
--- src/events.rt:124:39
 element-copy-out-mark-parts : tie.Need-element-copy-out-mark-parts Inv-loop μ-loop
 element-copy-out-mark-parts c = omega arith
 
--- src/events.rt:124:48
 element-copy-out-mark-parts-2 : tie.Need-element-copy-out-mark-parts-2 Inv-loop μ-loop
 element-copy-out-mark-parts-2 c = omega arith
 
--- src/events.rt:124:58
 element-copy-out-mark-parts-3 : tie.Need-element-copy-out-mark-parts-3 Inv-loop μ-loop
 element-copy-out-mark-parts-3 c = omega arith
 
--- src/events.rt:124:28
 mark-parts-requires : tie.Need-mark-parts-requires Inv-loop μ-loop
 mark-parts-requires c κs =
     let l = c .before .before .before .before .before in
     λ d q. let k = l .before .pre .0 (l .loop .i - 1) d q in let b = l .loop .inv .bound in let h = l .before .pre .1 in omega arith
 
--- src/events.rt:122:5
 loop-less : tie.Need-loop-less Inv-loop μ-loop
 loop-less c = omega arith
 
--- src/events.rt:122:5
 loop-again : tie.Need-loop-again Inv-loop μ-loop
 loop-again c =
     let l = c .before .before .before .before .before .before in
@@ -72,11 +58,9 @@ loop-again c =
     let p : l .loop .i ≡ suc (l .loop .i - 1) = omega arith in
     descent-marked T (l .before .pre .0) (a .c) _ (l .loop .i - 1) (l .loop .m) (subst (λ i. Descent T (a .c) (set (a .marks) (a .c) 1) i (l .loop .m)) p (l .loop .inv)) (c .mark-parts .result) (c .before .before .before .before .if1 .taken) (c .mark-parts .ensures)
 
--- src/events.rt:122:5
 loop-less-2 : tie.Need-loop-less-2 Inv-loop μ-loop
 loop-less-2 c = omega arith
 
--- src/events.rt:122:5
 loop-again-2 : tie.Need-loop-again-2 Inv-loop μ-loop
 loop-again-2 c =
     let l = c .before .before in
@@ -85,7 +69,6 @@ loop-again-2 c =
     let p : l .loop .i ≡ suc (l .loop .i - 1) = omega arith in
     descent-passed T (l .before .pre .0) (a .c) _ (l .loop .i - 1) (l .loop .m) (subst (λ i. Descent T (a .c) (set (a .marks) (a .c) 1) i (l .loop .m)) p (l .loop .inv)) (c .if1 .left)
 
--- src/events.rt:113:1
 returns : tie.Need-returns Inv-loop μ-loop
 returns c =
     let l = c .before in

@@ -10,14 +10,6 @@ use Rattle.casefile.specs.Events.{eventSays, looseSays}
 use Rattle.casefile.proofs.EventLoop.{Context, context, EventsSoFar, events-start, events-refused, events-end, events-make, events-loose, events-learn}
 use Rattle.casefile.proofs.events.read_events.Statement.{statement}
 use Rattle.casefile.proofs.events.read_events.Tie as tie
-use Rattle.casefile.proofs.events.read_events.Reads as reads
-use Rattle.casefile.proofs.events.read_events.Lts as lts
-use Rattle.casefile.proofs.events.ended.Reads as ended-reads
-use Rattle.casefile.proofs.events.event_step.Reads as event-step-reads
-use Rattle.casefile.proofs.events.is_loose.Reads as is-loose-reads
-use Rattle.casefile.proofs.events.mark_within.Reads as mark-within-reads
-use Rattle.casefile.proofs.events.no_events.Reads as no-events-reads
-use Rattle.casefile.proofs.events.with_event.Reads as with-event-reads
 
 abbrev Inv-loop : tie.InvT-loop
 Inv-loop rest base t e₀ made₀ at₀ e made at =
@@ -26,26 +18,21 @@ Inv-loop rest base t e₀ made₀ at₀ e made at =
 abbrev μ-loop : tie.MeasureT-loop
 μ-loop rest base t e₀ made₀ at₀ e made at = 128 - e .count
 
--- src/events.rt:185:9
 no-events-requires : tie.Need-no-events-requires Inv-loop μ-loop
 no-events-requires c κs = search needs
 
--- src/events.rt:188:5
 loop-holds : tie.Need-loop-holds Inv-loop μ-loop
 loop-holds c =
     let a = c .before .before .args in
     let z = ap (λ u. u .count) (c .no-events .ensures) in
     (omega arith, omega arith, λ file cells h. events-start (now (a .rest)) (a .base) (a .t3) file cells h (c .no-events .result) (c .no-events .ensures))
 
--- src/events.rt:190:13
 event-step-requires : tie.Need-event-step-requires Inv-loop μ-loop
 event-step-requires c κs = search needs
 
--- src/events.rt:192:32
 enum-known-step : tie.Need-enum-known-step Inv-loop μ-loop
 enum-known-step c = search needs
 
--- src/events.rt:192:96
 add-t17 : tie.Need-add-t17 Inv-loop μ-loop
 add-t17 c =
     let o = c .before .before .before in
@@ -55,7 +42,6 @@ add-t17 c =
     let rest = now (a .rest) in
     omega (arith, s .pre, l .loop .inv .0)
 
--- src/events.rt:192:43
 returns : tie.Need-returns Inv-loop μ-loop
 returns c =
     let o = c .before .before .before in
@@ -66,11 +52,9 @@ returns c =
     let x = subst (eventSays (drop (l .loop .at) rest) (a .t3 .cells) (l .loop .e .count)) (c .before .step .given .1) (o .event-step .ensures) in
     λ file cells p i g w. events-refused rest (a .base) (a .t3) file cells (context rest (a .base) (a .t3) file cells (s .pre .1 .0) p i g w) (l .loop .at) (l .loop .e) (l .loop .made) (l .loop .inv .2 file cells (context rest (a .base) (a .t3) file cells (s .pre .1 .0) p i g w)) _ x
 
--- src/events.rt:193:59
 enum-told : tie.Need-enum-told Inv-loop μ-loop
 enum-told c = search needs
 
--- src/events.rt:193:59
 ended-requires : tie.Need-ended-requires Inv-loop μ-loop
 ended-requires c κs =
     let o = c .before .before in
@@ -82,7 +66,6 @@ ended-requires c κs =
     let h = x .whole in
     (omega (arith, length-drop (l .loop .at) rest), s .pre .1 .1)
 
--- src/events.rt:193:31
 returns-2 : tie.Need-returns-2 Inv-loop μ-loop
 returns-2 c =
     let o = c .before .before .before in
@@ -93,11 +76,9 @@ returns-2 c =
     let x = subst (eventSays (drop (l .loop .at) rest) (a .t3 .cells) (l .loop .e .count)) (c .before .enum-told .given .1) (o .event-step .ensures) in
     λ file cells p i g w. events-end rest (a .base) (a .t3) file cells (context rest (a .base) (a .t3) file cells (s .pre .1 .0) p i g w) (l .loop .at) (l .loop .e) (l .loop .made) (l .loop .inv .2 file cells (context rest (a .base) (a .t3) file cells (s .pre .1 .0) p i g w)) x (c .ended .result) (c .ended .ensures)
 
--- src/events.rt:194:29
 enum-known-step-2 : tie.Need-enum-known-step-2 Inv-loop μ-loop
 enum-known-step-2 c = search needs
 
--- src/events.rt:195:21
 mark-within-requires : tie.Need-mark-within-requires Inv-loop μ-loop
 mark-within-requires c κs =
     let o = c .before .before .before .before .before .before .before in
@@ -109,7 +90,6 @@ mark-within-requires c κs =
     let h = x .below in
     (s .pre .0, omega (arith, s .pre .1))
 
--- src/events.rt:197:17
 with-event-requires : tie.Need-with-event-requires Inv-loop μ-loop
 with-event-requires c κs =
     let o = c .before .before .before .before .before .before .before .before in
@@ -120,7 +100,6 @@ with-event-requires c κs =
     let x = subst (eventSays (drop (l .loop .at) rest) (a .t3 .cells) (l .loop .e .count)) (c .before .before .before .before .before .before .step2 .given .1) (o .event-step .ensures) in
     x .room
 
--- src/events.rt:198:17
 add-at : tie.Need-add-at Inv-loop μ-loop
 add-at c =
     let o = c .before .before .before .before .before .before .before .before .before in
@@ -132,7 +111,6 @@ add-at c =
     let h = x .whole in
     omega (arith, length-drop (l .loop .at) rest, s .pre .1 .1)
 
--- src/events.rt:188:5
 loop-less : tie.Need-loop-less Inv-loop μ-loop
 loop-less c =
     let o = c .before .before .before .before .before .before .before .before .before in
@@ -145,7 +123,6 @@ loop-less c =
     let z = ap (λ u. u .count) (c .with-event .ensures) in
     omega arith
 
--- src/events.rt:188:5
 loop-again : tie.Need-loop-again Inv-loop μ-loop
 loop-again c =
     let o = c .before .before .before .before .before .before .before .before .before in
@@ -163,11 +140,9 @@ loop-again c =
           (events-make rest (a .base) (a .t3) file cells h (l .loop .at) (l .loop .e) (l .loop .made) (l .loop .inv .2 file cells h) _ (c .before .mark-within .result) x (c .before .mark-within .ensures)),
     )
 
--- src/events.rt:200:30
 enum-known-step-3 : tie.Need-enum-known-step-3 Inv-loop μ-loop
 enum-known-step-3 c = search needs
 
--- src/events.rt:202:21
 mark-within-requires-2 : tie.Need-mark-within-requires-2 Inv-loop μ-loop
 mark-within-requires-2 c κs =
     let o = c .before .before .before .before .before .before .before in
@@ -179,11 +154,9 @@ mark-within-requires-2 c κs =
     let h = x .below in
     (s .pre .0, omega (arith, s .pre .1))
 
--- src/events.rt:203:20
 is-loose-requires : tie.Need-is-loose-requires Inv-loop μ-loop
 is-loose-requires c κs = search needs
 
--- src/events.rt:203:100
 add-t28 : tie.Need-add-t28 Inv-loop μ-loop
 add-t28 c =
     let o = c .before .before .before .before .before .before .before .before .before .before .before .before in
@@ -193,7 +166,6 @@ add-t28 c =
     let rest = now (a .rest) in
     omega (arith, s .pre, l .loop .inv .0)
 
--- src/events.rt:203:52
 returns-3 : tie.Need-returns-3 Inv-loop μ-loop
 returns-3 c =
     let o = c .before .before .before .before .before .before .before .before .before .before .before .before in
@@ -206,7 +178,6 @@ returns-3 c =
     λ file cells p i g w. events-loose rest (a .base) (a .t3) file cells (context rest (a .base) (a .t3) file cells (s .pre .1 .0) p i g w) (l .loop .at) (l .loop .e) (l .loop .made) (l .loop .inv .2 file cells (context rest (a .base) (a .t3) file cells (s .pre .1 .0) p i g w)) _ (m .mark-within2 .result) x (m .mark-within2 .ensures) (s .pre .0)
     (subst (looseSays (a .t3 .kind) (m .mark-within2 .result) (l .loop .made)) (c .if1 .taken) (c .before .is-loose .ensures))
 
--- src/events.rt:204:17
 with-event-requires-2 : tie.Need-with-event-requires-2 Inv-loop μ-loop
 with-event-requires-2 c κs =
     let o = c .before .before .before .before .before .before .before .before .before .before .before .before in
@@ -217,7 +188,6 @@ with-event-requires-2 c κs =
     let x = subst (eventSays (drop (l .loop .at) rest) (a .t3 .cells) (l .loop .e .count)) (c .before .before .before .before .before .before .before .before .before .before .step3 .given .1) (o .event-step .ensures) in
     x .room
 
--- src/events.rt:205:17
 add-at-2 : tie.Need-add-at-2 Inv-loop μ-loop
 add-at-2 c =
     let o = c .before .before .before .before .before .before .before .before .before .before .before .before .before in
@@ -229,7 +199,6 @@ add-at-2 c =
     let h = x .whole in
     omega (arith, length-drop (l .loop .at) rest, s .pre .1 .1)
 
--- src/events.rt:188:5
 loop-less-2 : tie.Need-loop-less-2 Inv-loop μ-loop
 loop-less-2 c =
     let o = c .before .before .before .before .before .before .before .before .before .before .before .before .before in
@@ -242,7 +211,6 @@ loop-less-2 c =
     let z = ap (λ u. u .count) (c .with-event2 .ensures) in
     omega arith
 
--- src/events.rt:188:5
 loop-again-2 : tie.Need-loop-again-2 Inv-loop μ-loop
 loop-again-2 c =
     let o = c .before .before .before .before .before .before .before .before .before .before .before .before .before in

@@ -7,46 +7,33 @@ use Rattle.casefile.proofs.EventLaws.{says-end, says-many, event-room, 
 use borrow.Author.Needs.{needs}
 use Rattle.casefile.proofs.events.whole_event.Statement.{statement}
 use Rattle.casefile.proofs.events.whole_event.Tie as tie
-use Rattle.casefile.proofs.events.whole_event.Reads as reads
-use Rattle.casefile.proofs.events.whole_event.Lts as lts
-use Rattle.casefile.proofs.events.below_cells.Reads as below-cells-reads
-use Rattle.casefile.proofs.events.event_of.Reads as event-of-reads
-use Rattle.casefile.proofs.events.is_end.Reads as is-end-reads
-use Rattle.casefile.proofs.record.fields_at.Reads as fields-at-reads
 
--- src/events.rt:79:8
 is-end-requires : tie.Need-is-end-requires
 is-end-requires c κs = search needs
 
--- src/events.rt:79:23
 returns : tie.Need-returns
 returns c =
     let s = c .before .before .before in
     says-end (drop (s .args .at) (now (s .args .rest))) (s .args .cells) (s .args .n) (s .args .mark) (s .pre .0) (s .pre .1) (sym (c .if1 .taken) ∙ c .before .is-end .ensures)
 
--- src/events.rt:80:19
 returns-2 : tie.Need-returns-2
 returns-2 c =
     let o = c .before in
     let s = o .before .before .before in
     says-many (drop (s .args .at) (now (s .args .rest))) (s .args .cells) (s .args .n) (s .args .mark) (s .pre .0) (s .pre .1) (sym (o .if1 .left) ∙ o .before .is-end .ensures) (c .if2 .taken)
 
--- src/events.rt:81:9
 fields-at-requires : tie.Need-fields-at-requires
 fields-at-requires c κs =
     let s = c .before .before .before .before in
     let h = event-room (drop (s .args .at) (now (s .args .rest))) (s .args .cells) (s .args .n) (s .args .mark) (s .pre .0) (s .pre .1) in
     omega (arith, length-drop (s .args .at) (now (s .args .rest)))
 
--- src/events.rt:82:23
 enum-known-fields : tie.Need-enum-known-fields
 enum-known-fields c = search needs
 
--- src/events.rt:82:42
 enum-told : tie.Need-enum-told
 enum-told c = search needs
 
--- src/events.rt:82:42
 returns-3 : tie.Need-returns-3
 returns-3 c =
     let g = c .before .before in
@@ -54,15 +41,12 @@ returns-3 c =
     let s = o .before .before .before in
     says-short (drop (s .args .at) (now (s .args .rest))) (s .args .cells) (s .args .n) (s .args .mark) (s .pre .0) (s .pre .1) (sym (o .if1 .left) ∙ o .before .is-end .ensures) (g .before .if2 .left) (sym (g .fields-at .ensures) ∙ c .enum-told .given .1)
 
--- src/events.rt:83:17
 event-of-requires : tie.Need-event-of-requires
 event-of-requires c κs = search needs
 
--- src/events.rt:83:5
 below-cells-requires : tie.Need-below-cells-requires
 below-cells-requires c κs = search needs
 
--- src/events.rt:74:1
 returns-4 : tie.Need-returns-4
 returns-4 c =
     let k = c .before .before in

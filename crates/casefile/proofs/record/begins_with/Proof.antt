@@ -3,34 +3,25 @@ use denote.Ref.{now}
 use borrow.Author.Needs.{needs}
 use Rattle.casefile.proofs.record.begins_with.Statement.{statement}
 use Rattle.casefile.proofs.record.begins_with.Tie as tie
-use Rattle.casefile.proofs.record.begins_with.Reads as reads
-use Rattle.casefile.proofs.record.begins_with.Lts as lts
 
--- src/record.rt:22:8
 shared-slice-read-if1 : tie.Need-shared-slice-read-if1
 shared-slice-read-if1 c = search needs
 
--- src/record.rt:22:20
 element-copy-out-if1 : tie.Need-element-copy-out-if1
 element-copy-out-if1 c = search needs
 
--- src/record.rt:22:35
 add-result : tie.Need-add-result
 add-result c = search needs
 
--- src/record.rt:22:30
 shared-slice-read-result : tie.Need-shared-slice-read-result
 shared-slice-read-result c = search needs
 
--- src/record.rt:22:46
 element-copy-out-result : tie.Need-element-copy-out-result
 element-copy-out-result c = search needs
 
--- src/record.rt:18:1
 returns : tie.Need-returns
 returns c = let a = c .before .before .before .before .before .args in begins-first (now (a .file)) (a .at) (now (a .mark)) (c .before .before .if1 .taken)
 
--- src/record.rt:18:1
 returns-2 : tie.Need-returns-2
 returns-2 c = let a = c .before .before .before .args in begins-other (now (a .file)) (a .at) (now (a .mark)) (c .if1 .left)
 

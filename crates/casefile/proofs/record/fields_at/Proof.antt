@@ -4,47 +4,33 @@ use Rattle.casefile.proofs.RecordLaws.{fields-cut, fields-whole}
 use borrow.Author.Needs.{needs}
 use Rattle.casefile.proofs.record.fields_at.Statement.{statement}
 use Rattle.casefile.proofs.record.fields_at.Tie as tie
-use Rattle.casefile.proofs.record.fields_at.Reads as reads
-use Rattle.casefile.proofs.record.fields_at.Lts as lts
-use Rattle.casefile.proofs.record.byte.Reads as byte-reads
-use Rattle.casefile.proofs.record.record_of.Reads as record-of-reads
-use Rattle.casefile.proofs.record.width_of.Reads as width-of-reads
 
--- src/record.rt:105:16
 add-from : tie.Need-add-from
 add-from c = search needs
 
--- src/record.rt:106:8
 sub-if1 : tie.Need-sub-if1
 sub-if1 c = search needs
 
--- src/record.rt:106:28
 width-of-requires : tie.Need-width-of-requires
 width-of-requires c κs = search needs
 
--- src/record.rt:106:45
 returns : tie.Need-returns
 returns c =
     let a = c .before .before .before .args in
     fields-cut (now (a .file)) (a .at) (omega arith) (a .mark) (omega arith)
 
--- src/record.rt:107:29
 add-byte : tie.Need-add-byte
 add-byte c = search needs
 
--- src/record.rt:107:9
 byte-requires : tie.Need-byte-requires
 byte-requires c κs = search needs
 
--- src/record.rt:108:35
 byte-requires-2 : tie.Need-byte-requires-2
 byte-requires-2 c κs = search needs
 
--- src/record.rt:108:19
 record-of-requires : tie.Need-record-of-requires
 record-of-requires c κs = search needs
 
--- src/record.rt:101:1
 returns-2 : tie.Need-returns-2
 returns-2 c =
     let e = c .before .before .before in

@@ -4,27 +4,19 @@ use Rattle.casefile.proofs.RecordLaws.{mark-cut}
 use borrow.Author.Needs.{needs}
 use Rattle.casefile.proofs.record.mark_at.Statement.{statement}
 use Rattle.casefile.proofs.record.mark_at.Tie as tie
-use Rattle.casefile.proofs.record.mark_at.Reads as reads
-use Rattle.casefile.proofs.record.mark_at.Lts as lts
-use Rattle.casefile.proofs.record.whole_mark.Reads as whole-mark-reads
 
--- src/record.rt:45:25
 returns : tie.Need-returns
 returns c = let a = c .before .before .args in mark-cut (now (a .file)) (a .at) (omega arith)
 
--- src/record.rt:46:8
 sub-if2 : tie.Need-sub-if2
 sub-if2 c = search needs
 
--- src/record.rt:46:30
 returns-2 : tie.Need-returns-2
 returns-2 c = let a = c .before .before .before .args in mark-cut (now (a .file)) (a .at) (omega arith)
 
--- src/record.rt:47:5
 whole-mark-requires : tie.Need-whole-mark-requires
 whole-mark-requires c κs = search needs
 
--- src/record.rt:42:1
 returns-3 : tie.Need-returns-3
 returns-3 c = search needs
 

@@ -1,91 +1,67 @@
 use borrow.Author.Needs.{needs}
 use Rattle.casefile.proofs.record.record_of.Statement.{statement}
 use Rattle.casefile.proofs.record.record_of.Tie as tie
-use Rattle.casefile.proofs.record.record_of.Reads as reads
-use Rattle.casefile.proofs.record.record_of.Lts as lts
-use Rattle.casefile.proofs.record.word_of.Reads as word-of-reads
 
--- src/record.rt:87:36
 enum-told : tie.Need-enum-told
 enum-told c = search needs
 
--- src/record.rt:87:36
 word-of-requires : tie.Need-word-of-requires
 word-of-requires c κs = search needs
 
--- src/record.rt:88:27
 enum-told-2 : tie.Need-enum-told-2
 enum-told-2 c = search needs
 
--- src/record.rt:89:23
 enum-told-3 : tie.Need-enum-told-3
 enum-told-3 c = search needs
 
--- src/record.rt:90:23
 enum-told-4 : tie.Need-enum-told-4
 enum-told-4 c = search needs
 
--- src/record.rt:91:24
 enum-told-5 : tie.Need-enum-told-5
 enum-told-5 c = search needs
 
--- src/record.rt:92:23
 enum-told-6 : tie.Need-enum-told-6
 enum-told-6 c = search needs
 
--- src/record.rt:93:24
 enum-told-7 : tie.Need-enum-told-7
 enum-told-7 c = search needs
 
--- src/record.rt:94:22
 enum-told-8 : tie.Need-enum-told-8
 enum-told-8 c = search needs
 
--- src/record.rt:95:26
 enum-told-9 : tie.Need-enum-told-9
 enum-told-9 c = search needs
 
--- src/record.rt:96:22
 enum-told-10 : tie.Need-enum-told-10
 enum-told-10 c = search needs
 
--- src/record.rt:83:1
 returns : tie.Need-returns
 returns c = rw (c .before .enum-told .given .1, c .word-of .ensures)
 
--- src/record.rt:83:1
 returns-2 : tie.Need-returns-2
 returns-2 c = search needs
 
--- src/record.rt:83:1
 returns-3 : tie.Need-returns-3
 returns-3 c = rw (c .enum-told3 .given .1)
 
--- src/record.rt:83:1
 returns-4 : tie.Need-returns-4
 returns-4 c = rw (c .enum-told4 .given .1)
 
--- src/record.rt:83:1
 returns-5 : tie.Need-returns-5
 returns-5 c = rw (c .enum-told5 .given .1)
 
--- src/record.rt:83:1
 returns-6 : tie.Need-returns-6
 returns-6 c = rw (c .enum-told6 .given .1)
 
--- src/record.rt:83:1
 returns-7 : tie.Need-returns-7
 returns-7 c = rw (c .enum-told7 .given .1)
 
--- src/record.rt:83:1
 returns-8 : tie.Need-returns-8
 returns-8 c = search needs
 
--- src/record.rt:83:1
 returns-9 : tie.Need-returns-9
 returns-9 c = search needs
 
--- src/record.rt:83:1
 returns-10 : tie.Need-returns-10
 returns-10 c = search needs
 

@@ -7,15 +7,10 @@ use Rattle.casefile.proofs.RecordLaws.{kind-here, kind-not, mark-of}
 use borrow.Author.Needs.{needs}
 use Rattle.casefile.proofs.record.whole_mark.Statement.{statement}
 use Rattle.casefile.proofs.record.whole_mark.Tie as tie
-use Rattle.casefile.proofs.record.whole_mark.Reads as reads
-use Rattle.casefile.proofs.record.whole_mark.Lts as lts
-use Rattle.casefile.proofs.record.begins_with.Reads as begins-with-reads
 
--- src/record.rt:30:8
 begins-with-requires : tie.Need-begins-with-requires
 begins-with-requires c κs = search needs
 
--- src/record.rt:30:39
 returns : tie.Need-returns
 returns c =
     let e1 = c in
@@ -24,11 +19,9 @@ returns c =
     mark-of (now (a .file)) (a .at) (e1 .before .before .before .before .pre)
     (kind-here rest Kind.Atom (Kind.Variable ∷ Kind.Pair ∷ Kind.Seal ∷ Kind.Apply ∷ Kind.Make ∷ Kind.Learn ∷ Kind.End ∷ []) (sym (e1 .before .begins-with .ensures) ∙ e1 .if1 .taken))
 
--- src/record.rt:31:8
 begins-with-requires-2 : tie.Need-begins-with-requires-2
 begins-with-requires-2 c κs = search needs
 
--- src/record.rt:31:39
 returns-2 : tie.Need-returns-2
 returns-2 c =
     let e2 = c in
@@ -39,11 +32,9 @@ returns-2 c =
     (kind-not rest Kind.Atom (Kind.Variable ∷ Kind.Pair ∷ Kind.Seal ∷ Kind.Apply ∷ Kind.Make ∷ Kind.Learn ∷ Kind.End ∷ []) (sym (e1 .before .begins-with .ensures) ∙ e1 .if1 .left)
     (kind-here rest Kind.Variable (Kind.Pair ∷ Kind.Seal ∷ Kind.Apply ∷ Kind.Make ∷ Kind.Learn ∷ Kind.End ∷ []) (sym (e2 .before .begins-with2 .ensures) ∙ e2 .if2 .taken)))
 
--- src/record.rt:32:8
 begins-with-requires-3 : tie.Need-begins-with-requires-3
 begins-with-requires-3 c κs = search needs
 
--- src/record.rt:32:39
 returns-3 : tie.Need-returns-3
 returns-3 c =
     let e3 = c in
@@ -56,11 +47,9 @@ returns-3 c =
     (kind-not rest Kind.Variable (Kind.Pair ∷ Kind.Seal ∷ Kind.Apply ∷ Kind.Make ∷ Kind.Learn ∷ Kind.End ∷ []) (sym (e2 .before .begins-with2 .ensures) ∙ e2 .if2 .left)
     (kind-here rest Kind.Pair (Kind.Seal ∷ Kind.Apply ∷ Kind.Make ∷ Kind.Learn ∷ Kind.End ∷ []) (sym (e3 .before .begins-with3 .ensures) ∙ e3 .if3 .taken))))
 
--- src/record.rt:33:8
 begins-with-requires-4 : tie.Need-begins-with-requires-4
 begins-with-requires-4 c κs = search needs
 
--- src/record.rt:33:39
 returns-4 : tie.Need-returns-4
 returns-4 c =
     let e4 = c in
@@ -75,11 +64,9 @@ returns-4 c =
     (kind-not rest Kind.Pair (Kind.Seal ∷ Kind.Apply ∷ Kind.Make ∷ Kind.Learn ∷ Kind.End ∷ []) (sym (e3 .before .begins-with3 .ensures) ∙ e3 .if3 .left)
     (kind-here rest Kind.Seal (Kind.Apply ∷ Kind.Make ∷ Kind.Learn ∷ Kind.End ∷ []) (sym (e4 .before .begins-with4 .ensures) ∙ e4 .if4 .taken)))))
 
--- src/record.rt:34:8
 begins-with-requires-5 : tie.Need-begins-with-requires-5
 begins-with-requires-5 c κs = search needs
 
--- src/record.rt:34:39
 returns-5 : tie.Need-returns-5
 returns-5 c =
     let e5 = c in
@@ -96,11 +83,9 @@ returns-5 c =
     (kind-not rest Kind.Seal (Kind.Apply ∷ Kind.Make ∷ Kind.Learn ∷ Kind.End ∷ []) (sym (e4 .before .begins-with4 .ensures) ∙ e4 .if4 .left)
     (kind-here rest Kind.Apply (Kind.Make ∷ Kind.Learn ∷ Kind.End ∷ []) (sym (e5 .before .begins-with5 .ensures) ∙ e5 .if5 .taken))))))
 
--- src/record.rt:35:8
 begins-with-requires-6 : tie.Need-begins-with-requires-6
 begins-with-requires-6 c κs = search needs
 
--- src/record.rt:35:39
 returns-6 : tie.Need-returns-6
 returns-6 c =
     let e6 = c in
@@ -119,11 +104,9 @@ returns-6 c =
     (kind-not rest Kind.Apply (Kind.Make ∷ Kind.Learn ∷ Kind.End ∷ []) (sym (e5 .before .begins-with5 .ensures) ∙ e5 .if5 .left)
     (kind-here rest Kind.Make (Kind.Learn ∷ Kind.End ∷ []) (sym (e6 .before .begins-with6 .ensures) ∙ e6 .if6 .taken)))))))
 
--- src/record.rt:36:8
 begins-with-requires-7 : tie.Need-begins-with-requires-7
 begins-with-requires-7 c κs = search needs
 
--- src/record.rt:36:39
 returns-7 : tie.Need-returns-7
 returns-7 c =
     let e7 = c in
@@ -144,11 +127,9 @@ returns-7 c =
     (kind-not rest Kind.Make (Kind.Learn ∷ Kind.End ∷ []) (sym (e6 .before .begins-with6 .ensures) ∙ e6 .if6 .left)
     (kind-here rest Kind.Learn (Kind.End ∷ []) (sym (e7 .before .begins-with7 .ensures) ∙ e7 .if7 .taken))))))))
 
--- src/record.rt:37:8
 begins-with-requires-8 : tie.Need-begins-with-requires-8
 begins-with-requires-8 c κs = search needs
 
--- src/record.rt:37:39
 returns-8 : tie.Need-returns-8
 returns-8 c =
     let e8 = c in
@@ -171,7 +152,6 @@ returns-8 c =
     (kind-not rest Kind.Learn (Kind.End ∷ []) (sym (e7 .before .begins-with7 .ensures) ∙ e7 .if7 .left)
     (kind-here rest Kind.End [] (sym (e8 .before .begins-with8 .ensures) ∙ e8 .if8 .taken)))))))))
 
--- src/record.rt:26:1
 returns-9 : tie.Need-returns-9
 returns-9 c =
     let e8 = c in

@@ -4,22 +4,13 @@ use Rattle.solving.proofs.SearchLaws.{solves, solves-none}
 use borrow.Author.Needs.{needs}
 use Rattle.solving.proofs.search.solve.Statement.{statement}
 use Rattle.solving.proofs.search.solve.Tie as tie
-use Rattle.solving.proofs.search.solve.Reads as reads
-use Rattle.solving.proofs.search.solve.Lts as lts
-use Rattle.classes.proofs.start.Reads as start-reads
-use Rattle.hopeless.proofs.hopes.hopeless.Reads as hopeless-reads
-use Rattle.solving.proofs.list.value_list.Reads as value-list-reads
-use Rattle.solving.proofs.search.search.Reads as search-reads
 
--- src/search.rt:140:9
 start-requires : tie.Need-start-requires
 start-requires c κs = search needs
 
--- src/search.rt:141:8
 hopeless-requires : tie.Need-hopeless-requires
 hopeless-requires c κs = (c .before .pre .0, (c .before .pre .1 .0, (c .before .pre .1 .1, c .start .ensures .solved)))
 
--- src/search.rt:142:9
 returns : tie.Need-returns
 returns c =
     let st = c .before .before in
@@ -27,18 +18,15 @@ returns c =
     let a = s .args in
     solves-none (s .pre .0) (runAt (a .count) (a .ekind .now) (a .ecell .now)) (st .start .result) _ (st .start .ensures) (c .before .hopeless .ensures (c .if1 .taken)) refl
 
--- src/search.rt:147:13
 search-requires : tie.Need-search-requires
 search-requires c κs =
     let st = c .before .before in
     let s = st .before in
     (s .pre .0, (s .pre .1 .0, (s .pre .1 .1, st .start .ensures .solved)))
 
--- src/search.rt:148:9
 value-list-requires : tie.Need-value-list-requires
 value-list-requires c κs = let s = c .before .before .before .before .before .before in s .pre .0 .few
 
--- src/search.rt:126:1
 returns-2 : tie.Need-returns-2
 returns-2 c =
     let q = c .before .before .before in
