@@ -1,4 +1,4 @@
-"""Document 01 once more, written from the document alone: a second opinion on every reply.
+"""Document 01 once more, written from the document and not from crates/: a second opinion on every reply.
 
 Messages are numbers of a Store, which holds each different tree once, so equal trees have equal numbers and no tree is walked
 twice. A refusal is an exception with its number and place.
