@@ -8,8 +8,9 @@
  * A refusal, "no" and "wrong" write nothing; a reply writes its own bytes and touches none beyond them.
  *
  * Refusals: 1 the file ends too early, 2 unknown mark, 3 cell after an event, 4 more than 128 cells or 128 events, 5 cell number out of range,
- * 6 LN shows a variable that no earlier MK held, 7 bytes after EN, 8 variables in a question without them, 9 buffer too short (place: the length
- * needed), 10 value list in bad form. The place is the offset in the file of the record's mark, unless said otherwise.
+ * 6 LN shows a variable that no earlier MK held, 7 bytes after EN (place: the first of them), 8 variables in a question without them (place: the
+ * first VA), 9 buffer too short (place: the length needed), 10 value list in bad form. The place is the offset in the file of the record's mark,
+ * unless said otherwise; for 1 the file's length if the file ends between records.
  *
  * No function allocates, keeps state or calls back; all may be called from several threads at once.
  */

@@ -1,6 +1,6 @@
 """Writes crates/vectors/stdin, a row of cases, and crates/vectors/stdout, the line that each case must print.
 
-    python3 tools/vectors.py [SECTION..]        sections: files marks reduce equate run list; without names: LANDED
+    python3 tools/vectors.py [SECTION..]        sections: files marks reduce equate run list; without names: all
 
 A case is the question's letter, what the question asks besides, two bytes for the file's length (high byte first) and the file:
   f  nothing                                accepted CELLS EVENTS FIRST-VARIABLE-OR-DASH
@@ -19,7 +19,6 @@ import exchanges
 import reference
 from reference import MOST, OWN, Refused
 
-LANDED = ["files", "marks", "reduce", "equate", "run", "list"]
 FOLDER = os.path.join(os.path.dirname(os.path.dirname(os.path.abspath(__file__))), "crates", "vectors")
 WIDE = 1000                       # a room that every reply fits
 EN = b"EN"
@@ -425,9 +424,8 @@ SECTIONS = {"files": files, "marks": marks, "reduce": reduce, "equate": equate, 
 
 
 def main(names):
-    chosen = names or LANDED
     stdin, lines = b"", []
-    for name in chosen:
+    for name in names or SECTIONS:
         for letter, extra, file in SECTIONS[name](random.Random("prismfleece " + name)):
             stdin += letter.encode() + extra + two_bytes(len(file)) + file
             lines.append(line_of(letter, extra, file))

@@ -17,7 +17,7 @@ use Rattle.model.proofs.Read.{clash}
 use Rattle.theory.specs.Cells.{classAt}
 use Rattle.knowledge.specs.declared.heard.Knowledge.{Knowledge}
 use Rattle.knowledge.specs.Heard.{FileKnown}
-use Rattle.knowledge.proofs.Ground.{marked?}
+use Rattle.knowledge.proofs.Grow.{marked?}
 use Rattle.building.specs.declared.Marked.{Marked}
 use Rattle.building.specs.declared.Marked.the-variants.{Refused, Marks}
 use Rattle.building.specs.Lay.{Lays}

@@ -1,19 +1,16 @@
 -- From the cell records and the event records to the reply.
-use mathlib.Core.Path.{_≡_, refl, sym, _∙_, ap, subst, fun-ext}
+use mathlib.Core.Path.{_≡_, sym, _∙_, ap, subst, fun-ext}
 use mathlib.Core.List.{List}
-use Prim.Native.Nat.{ℕ, _+_, _-_, _^_, _≤_, _<_}
+use Prim.Native.Nat.{ℕ, _+_, _-_, _≤_}
 use native.Mathlib.Omega.{arith}
 use lib.ListN.{length, take, drop, length-drop}
 use lib.Seq.{take-all}
-use Rattle.model.specs.Case.{Lower, tableOf}
+use Rattle.model.specs.Case.{Lower}
 use Rattle.model.specs.Stored.{tableAt}
-use Rattle.model.specs.Format.{Reading, readFile}
+use Rattle.model.specs.Format.{readFile}
 use Rattle.model.proofs.Rows.{table-rows}
-use Rattle.casefile.specs.declared.Case.{Case}
 use Rattle.casefile.specs.declared.Found.{Found}
 use Rattle.casefile.specs.declared.cells.Table.{Table}
-use Rattle.casefile.specs.declared.events.Events.{Events}
-use Rattle.casefile.specs.declared.events.Verdict.{Verdict}
 use Rattle.casefile.specs.declared.events.Verdict.the-variants as verdict
 use Rattle.casefile.specs.declared.events.EventsEnd.{EventsEnd}
 use Rattle.casefile.specs.Cells.{Cut, Begun}

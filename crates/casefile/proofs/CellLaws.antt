@@ -1,22 +1,20 @@
 -- The cell records: what the tests of a record find, as facts of plain values.
-use mathlib.Core.Path.{_≡_, refl, sym, _∙_, ap, ap₂, subst}
+use mathlib.Core.Path.{_≡_, refl, sym, _∙_, ap, subst}
 use mathlib.Core.Bool.{Bool, true, false, cond}
-use mathlib.Core.List.{List, [], _∷_, _++_, map}
-use mathlib.Core.Option.{Option, some, none}
-use Prim.Native.Nat.{ℕ, suc, _+_, _-_, _*_, _/_, _%_, _≤_, _<_}
+use mathlib.Core.List.{List, [], _∷_}
+use mathlib.Core.Option.{some}
+use Prim.Native.Nat.{ℕ, _+_, _-_, _*_, _≤_, _<_}
 use native.Mathlib.Omega.{arith}
-use native.Mathlib.Numerals.{add-one}
-use borrow.Author.Tests.{lt-ltb, le-ltb, le-leb, lt-leb, eq-eqb, ne-eqb, ltb-true, ltb-false, leb-true, leb-false}
+use borrow.Author.Tests.{ltb-true, ltb-false, leb-true, leb-false}
 use lib.Dec.{ltb, leb}
-use lib.ListN.{length, getD, drop, set, replicate, length-map, length-append}
-use lib.Seq.{set-at}
+use lib.ListN.{length, getD}
 use Rattle.model.specs.Message.{App, Pair, Seal}
 use Rattle.model.specs.Case as case
 use Rattle.model.specs.Case.{AT, VA, ONE, TWO}
 use Rattle.model.specs.Reduce.{kind}
-use Rattle.model.specs.Stored.{first, second, row}
-use Rattle.model.specs.Format.{Kind, kindOf, isCell, width, recordOf, recordAt, Record, anyOf, numbers, late, tooMany, outside, loose, check, checkKind, Checked}
-use Rattle.model.proofs.Pick.{yes, into, no}
+use Rattle.model.specs.Stored.{first, second}
+use Rattle.model.specs.Format.{Kind, kindOf, isCell, width, recordOf, recordAt, Record, anyOf, numbers, late, tooMany, outside, loose, check, Checked}
+use Rattle.model.proofs.Pick.{into, no}
 use Rattle.model.proofs.Read.{clash}
 use Rattle.casefile.specs.declared.record.Mark.{Mark}
 use Rattle.casefile.specs.declared.record.Mark.the-variants as mark
@@ -25,38 +23,8 @@ use Rattle.casefile.specs.declared.cells.Section.the-variants as section
 use Rattle.casefile.specs.Record.{asMark, markAt, widthOf, recordFor, fieldsAt}
 use Rattle.casefile.specs.declared.record.Fields.the-variants as fields
 use Rattle.casefile.specs.declared.record.Record.{Record as Rec}
+use Rattle.casefile.proofs.TestLaws.{Means, cut, unknown, known, means, check-cut, check-unknown, test-full, test-cut, test-outside, test-inside, outside-none, outside-in, outside-here, outside-later}
 use Rattle.casefile.specs.Cells.{sectionOf, cellFor, partsBelow, sizeOf, Before, Begun, Next}
-
--- What a mark found tells of the rest of the file.
-pub data Means (rest : List ℕ) : Mark → Type 0 where
-  cut : length rest < 2 → Means rest mark.Cut
-  unknown : 2 ≤ length rest → kindOf rest ≡ none → Means rest mark.Unknown
-  known : (k : Kind) → 2 ≤ length rest → kindOf rest ≡ some k → Means rest (asMark (some k))
-
-pub means : (rest : List ℕ) → Means rest (markAt rest)
-unfolding markAt
-means rest = short (ltb (length rest) 2) refl
-  where
-    kinds : (o : Option Kind) → 2 ≤ length rest → kindOf rest ≡ o → Means rest (asMark o)
-    kinds none h e = unknown h e
-    kinds (some k) h e = known k h e
-
-    short : (b : Bool) → ltb (length rest) 2 ≡ b → Means rest (cond b mark.Cut (asMark (kindOf rest)))
-    short true e = cut (ltb-true _ _ e)
-    short false e = kinds (kindOf rest) (ltb-false _ _ e) refl
-
--- A whole mark is checked by its kind.
-pub check-kind : (rest : List ℕ) (f : case.File) (o : Option Kind) → 2 ≤ length rest → kindOf rest ≡ o → check rest f ≡ checkKind rest f o
-unfolding check
-check-kind rest f o h e = sym (no _ (le-ltb (length rest) 2 h) (ap (checkKind rest f) (sym e)))
-
-pub check-cut : (rest : List ℕ) (f : case.File) → length rest < 2 → check rest f ≡ Checked.fault 1
-unfolding check
-check-cut rest f h = sym (yes _ (lt-ltb (length rest) 2 h))
-
-pub check-unknown : (rest : List ℕ) (f : case.File) → 2 ≤ length rest → kindOf rest ≡ none → check rest f ≡ Checked.fault 2
-unfolding checkKind
-check-unknown rest f h e = check-kind rest f none h e
 
 -- A fault of the mark itself is refused in any section.
 pub fault-says : (rest : List ℕ) (m : Mark) (x : ℕ) → Means rest m → sectionOf m ≡ section.Fault x → (f : case.File) → check rest f ≡ Checked.fault x
@@ -134,53 +102,25 @@ cell-says Kind.End a b e = clash (cc)
 
 -- The tests of a cell record after n cells, in the paper's order.
 module _ (rest : List ℕ) (f : case.File) (n : ℕ) (k : Kind) (b : Before f n) (found : kindOf rest ≡ some k) (is : isCell k ≡ true) (h : 2 ≤ length rest) where
-  not-late : late (f .events) k ≡ false
-  not-late = ap (λ es. late es k) (b .events)
+  early : late (f .events) k ≡ false
+  early = ap (λ es. late es k) (b .events)
 
   many : tooMany f k ≡ leb 128 n
   many = sym (into _ is (ap (leb 128) (sym (b .cells))))
 
-  on-kind : check rest f ≡ checkKind rest f (some k)
-  on-kind = check-kind rest f (some k) h found
-
   pub cell-full : 128 ≤ n → check rest f ≡ Checked.fault 4
-  unfolding checkKind
-  cell-full full = on-kind ∙ sym (no _ not-late (yes _ (many ∙ le-leb 128 n full)))
+  cell-full = test-full rest f n k found h early many
 
   module _ (room : n < 128) where
     pub cell-cut : length rest < 2 + width k → check rest f ≡ Checked.fault 1
-    unfolding checkKind
-    cell-cut short = on-kind ∙ sym (no _ not-late (no _ (many ∙ lt-leb 128 n room) (yes _ (lt-ltb (length rest) (2 + width k) short))))
+    cell-cut = test-cut rest f n k found h early many room
 
     module _ (whole : 2 + width k ≤ length rest) where
       pub cell-outside : outside f (recordAt rest k) ≡ true → check rest f ≡ Checked.fault 5
-      unfolding checkKind
-      cell-outside out = on-kind ∙ sym (no _ not-late (no _ (many ∙ lt-leb 128 n room) (no _ (le-ltb (length rest) (2 + width k) whole) (yes _ out))))
+      cell-outside = test-outside rest f n k found h early many room whole
 
       pub cell-sound : outside f (recordAt rest k) ≡ false → loose f (recordAt rest k) ≡ false → check rest f ≡ Checked.sound k
-      unfolding checkKind
-      cell-sound inn tight = on-kind ∙ sym (no _ not-late (no _ (many ∙ lt-leb 128 n room) (no _ (le-ltb (length rest) (2 + width k) whole) (no _ inn (no _ tight refl)))))
-
--- A stored cell's parts are below n exactly if no number of its record is outside n cells.
-pub any-none : (n : ℕ) → anyOf (leb n) [] ≡ false
-unfolding anyOf
-any-none n = refl
-
-pub any-in : (n x : ℕ) (xs : List ℕ) → x < n → anyOf (leb n) xs ≡ false → anyOf (leb n) (x ∷ xs) ≡ false
-unfolding anyOf
-any-in n x xs h e = sym (no _ (lt-leb n x h) (sym e))
-
-pub any-out : (n x : ℕ) (xs : List ℕ) → n ≤ x → anyOf (leb n) (x ∷ xs) ≡ true
-unfolding anyOf
-any-out n x xs h = sym (yes _ (le-leb n x h))
-
-any-later : (n x : ℕ) (xs : List ℕ) → anyOf (leb n) xs ≡ true → anyOf (leb n) (x ∷ xs) ≡ true
-unfolding anyOf
-any-later n x xs e = later (leb n x)
-  where
-    later : (t : Bool) → cond t true (anyOf (leb n) xs) ≡ true
-    later true = refl
-    later false = e
+      cell-sound inn tight = test-inside rest f n k found h early many room whole inn ∙ sym (no _ tight refl)
 
 -- The numbers of a cell's record, by how the cell is stored.
 abbrev storedAs : case.Cell → Cell
@@ -194,33 +134,33 @@ two-in l r n e = go (leb n r) refl e
   where
     go : (t : Bool) → leb n r ≡ t → cond t false (ltb l n) ≡ true → anyOf (leb n) (l ∷ r ∷ []) ≡ false
     go true e i = clash (cc)
-    go false e i = any-in n l (r ∷ []) (ltb-true l n i) (any-in n r [] (leb-false n r e) (any-none n))
+    go false e i = outside-in n l (r ∷ []) (ltb-true l n i) (outside-in n r [] (leb-false n r e) (outside-none n))
 
 two-out : (l r n : ℕ) → cond (leb n r) false (ltb l n) ≡ false → anyOf (leb n) (l ∷ r ∷ []) ≡ true
 two-out l r n e = go (leb n r) refl e
   where
     go : (t : Bool) → leb n r ≡ t → cond t false (ltb l n) ≡ false → anyOf (leb n) (l ∷ r ∷ []) ≡ true
-    go true e i = any-later n l (r ∷ []) (any-out n r [] (leb-true n r e))
-    go false e i = any-out n l (r ∷ []) (ltb-false l n i)
+    go true e i = outside-later n l (r ∷ []) (outside-here n r [] (leb-true n r e))
+    go false e i = outside-here n l (r ∷ []) (ltb-false l n i)
 
 one-in : (a n : ℕ) → cond (leb n a) false true ≡ true → anyOf (leb n) (a ∷ []) ≡ false
 one-in a n e = go (leb n a) refl e
   where
     go : (t : Bool) → leb n a ≡ t → cond t false true ≡ true → anyOf (leb n) (a ∷ []) ≡ false
     go true e i = clash (cc)
-    go false e i = any-in n a [] (leb-false n a e) (any-none n)
+    go false e i = outside-in n a [] (leb-false n a e) (outside-none n)
 
 one-out : (a n : ℕ) → cond (leb n a) false true ≡ false → anyOf (leb n) (a ∷ []) ≡ true
 one-out a n e = go (leb n a) refl e
   where
     go : (t : Bool) → leb n a ≡ t → cond t false true ≡ false → anyOf (leb n) (a ∷ []) ≡ true
-    go true e i = any-out n a [] (leb-true n a e)
+    go true e i = outside-here n a [] (leb-true n a e)
     go false e i = clash (cc)
 
 pub parts-in : (d : case.Cell) (n : ℕ) → partsBelow (storedAs d) n ≡ true → anyOf (leb n) (numbers (Record.cell d)) ≡ false
 unfolding partsBelow
-parts-in (AT x) n e = any-none n
-parts-in VA n e = any-none n
+parts-in (AT x) n e = outside-none n
+parts-in VA n e = outside-none n
 parts-in (ONE (App f) a) n e = one-in a n e
 parts-in (TWO Pair l r) n e = two-in l r n e
 parts-in (TWO Seal l r) n e = two-in l r n e

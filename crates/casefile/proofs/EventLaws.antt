@@ -5,12 +5,12 @@ use mathlib.Core.List.{List, [], _∷_}
 use mathlib.Core.Option.{some}
 use Prim.Native.Nat.{ℕ, _+_, _≤_, _<_}
 use native.Mathlib.Omega.{arith}
-use borrow.Author.Tests.{lt-ltb, le-ltb, le-leb, lt-leb, ltb-true, ltb-false}
+use borrow.Author.Tests.{le-ltb, ltb-true, ltb-false}
 use lib.Dec.{ltb, leb}
 use lib.ListN.{length, getD}
 use Rattle.model.specs.Case as case
 use Rattle.model.specs.Stored.{aim}
-use Rattle.model.specs.Format.{Kind, kindOf, isCell, isEvent, width, recordOf, recordAt, Record, anyOf, numbers, late, tooMany, outside, loose, check, checkKind, Checked}
+use Rattle.model.specs.Format.{Kind, kindOf, isCell, isEvent, width, recordAt, Record, anyOf, late, tooMany, outside, loose, check, checkKind, Checked}
 use Rattle.model.proofs.Pick.{yes, into, no}
 use Rattle.model.proofs.Read.{clash}
 use Rattle.casefile.specs.declared.record.Mark.{Mark}
@@ -18,12 +18,12 @@ use Rattle.casefile.specs.declared.record.Mark.the-variants as mark
 use Rattle.casefile.specs.declared.record.Record.{Record as Rec}
 use Rattle.casefile.specs.declared.record.Fields.the-variants as fields
 use Rattle.casefile.specs.declared.cells.Section.the-variants as section
-use Rattle.casefile.specs.declared.events.EventStep.{EventStep}
 use Rattle.casefile.specs.declared.events.EventStep.the-variants as step
 use Rattle.casefile.specs.Record.{asMark, markAt, widthOf, recordFor, fieldsAt}
-use Rattle.casefile.specs.Cells.{sectionOf, Begun}
+use Rattle.casefile.specs.Cells.{sectionOf}
 use Rattle.casefile.specs.Events.{endMark, eventFor, belowCells, Among, Found, Ended, eventSays}
-use Rattle.casefile.proofs.CellLaws.{Means, cut, unknown, known, means, check-kind, mark-cells, width-mark, fields-short, fields-long, any-in, any-out, any-none}
+use Rattle.casefile.proofs.CellLaws.{mark-cells, width-mark, fields-short, fields-long}
+use Rattle.casefile.proofs.TestLaws.{Means, cut, unknown, known, means, check-kind, test-full, test-cut, test-outside, test-inside, outside-none, outside-in, outside-here}
 
 -- A cell record after an event is late; before the first event no cell record stands.
 late-true : (es : List case.Event) (k : Kind) → isCell k ≡ true → (es ≡ [] → ⊥) → late es k ≡ true
@@ -63,37 +63,30 @@ events-kind rest m (known Kind.End h k) e = record { tag = Kind.End; found = k; 
 
 -- The tests of an event record, in the paper's order.
 module _ (rest : List ℕ) (f : case.File) (count n : ℕ) (k : Kind) (a : Among rest f count n) (found : kindOf rest ≡ some k) (h : 2 ≤ length rest) (is : isCell k ≡ false) where
-  not-late : late (f .events) k ≡ false
-  not-late = late-false (f .events) k is
-
-  on-kind : check rest f ≡ checkKind rest f (some k)
-  on-kind = check-kind rest f (some k) h found
+  early : late (f .events) k ≡ false
+  early = late-false (f .events) k is
 
   module _ (event : isEvent k ≡ true) where
     many : tooMany f k ≡ leb 128 n
     many = sym (no _ is (into _ event (ap (leb 128) (sym (a .events)))))
 
     pub event-full : 128 ≤ n → check rest f ≡ Checked.fault 4
-    unfolding checkKind
-    event-full full = on-kind ∙ sym (no _ not-late (yes _ (many ∙ le-leb 128 n full)))
+    event-full = test-full rest f n k found h early many
 
     module _ (room : n < 128) where
       pub event-cut : length rest < 2 + width k → check rest f ≡ Checked.fault 1
-      unfolding checkKind
-      event-cut short = on-kind ∙ sym (no _ not-late (no _ (many ∙ lt-leb 128 n room) (yes _ (lt-ltb (length rest) (2 + width k) short))))
+      event-cut = test-cut rest f n k found h early many room
 
       module _ (whole : 2 + width k ≤ length rest) where
         pub event-outside : outside f (recordAt rest k) ≡ true → check rest f ≡ Checked.fault 5
-        unfolding checkKind
-        event-outside out = on-kind ∙ sym (no _ not-late (no _ (many ∙ lt-leb 128 n room) (no _ (le-ltb (length rest) (2 + width k) whole) (yes _ out))))
+        event-outside = test-outside rest f n k found h early many room whole
 
         pub event-inside : outside f (recordAt rest k) ≡ false → check rest f ≡ cond (loose f (recordAt rest k)) (Checked.fault 6) (Checked.sound k)
-        unfolding checkKind
-        event-inside inn = on-kind ∙ sym (no _ not-late (no _ (many ∙ lt-leb 128 n room) (no _ (le-ltb (length rest) (2 + width k) whole) (no _ inn refl))))
+        event-inside = test-inside rest f n k found h early many room whole
 
   pub end-sound : k ≡ Kind.End → check rest f ≡ Checked.sound Kind.End
   unfolding checkKind anyOf
-  end-sound e = on-kind ∙ (ap (λ k. checkKind rest f (some k)) e ∙ sym (no _ (late-false (f .events) Kind.End refl) (no _ (le-ltb (length rest) 2 h) refl)))
+  end-sound e = check-kind rest f (some k) h found ∙ (ap (λ k. checkKind rest f (some k)) e ∙ sym (no _ (late-false (f .events) Kind.End refl) (no _ (le-ltb (length rest) 2 h) refl)))
 
 -- What the reader's steps give, from the mark on.
 module _ (rest : List ℕ) (count n : ℕ) (m : Mark) (e : m ≡ markAt rest) (s : sectionOf m ≡ section.Events) where
@@ -162,15 +155,15 @@ module _ (rest : List ℕ) (count n : ℕ) (m : Mark) (e : m ≡ markAt rest) (s
         }
           where
             inside : (f : case.File) → Among rest f count n → (v : case.Event) → aim v < count → outside f (Record.event v) ≡ false
-            inside f a (case.MK c) b = any-in (length (f .cells)) c [] (let z = a .cells in omega arith) (any-none (length (f .cells)))
-            inside f a (case.LN c) b = any-in (length (f .cells)) c [] (let z = a .cells in omega arith) (any-none (length (f .cells)))
+            inside f a (case.MK c) b = outside-in (length (f .cells)) c [] (let z = a .cells in omega arith) (outside-none (length (f .cells)))
+            inside f a (case.LN c) b = outside-in (length (f .cells)) c [] (let z = a .cells in omega arith) (outside-none (length (f .cells)))
 
         out-range : (v : case.Event) → recordAt rest (g .tag) ≡ Record.event v → count ≤ aim v → (f : case.File) → Among rest f count n → check rest f ≡ Checked.fault 5
         out-range v r above f a = event-outside rest f count n (g .tag) a (g .found) (g .whole) (g .is) (event .0) room whole (subst (λ r. outside f r ≡ true) (sym r) (out v above))
           where
             out : (v : case.Event) → count ≤ aim v → outside f (Record.event v) ≡ true
-            out (case.MK c) b = any-out (length (f .cells)) c [] (let z = a .cells in omega arith)
-            out (case.LN c) b = any-out (length (f .cells)) c [] (let z = a .cells in omega arith)
+            out (case.MK c) b = outside-here (length (f .cells)) c [] (let z = a .cells in omega arith)
+            out (case.LN c) b = outside-here (length (f .cells)) c [] (let z = a .cells in omega arith)
 
         make-says : (c : ℕ) → recordAt rest (g .tag) ≡ Record.event (case.MK c) → (t : Bool) → ltb c count ≡ t → eventSays rest count n (cond t (step.Make c) (step.Refused 5))
         make-says c r true i = in-range (case.MK c) r (ltb-true c count i)

@@ -1,14 +1,14 @@
 -- The loop over the event records.
-use mathlib.Core.Path.{_≡_, refl, sym, _∙_, ap, ap₂, subst, fun-ext}
-use mathlib.Core.Logic.{_↔_, _⊎_, inl, inr}
+use mathlib.Core.Path.{_≡_, refl, sym, _∙_, ap, subst, fun-ext}
+use mathlib.Core.Logic.{_↔_, inl, inr}
 use mathlib.Core.Bool.{Bool, true, false, cond}
 use mathlib.Core.List.{List, [], _∷_, _++_, List·Memᴰ, List·Memᴰ·append-cases, List·Memᴰ·eq-of-singleton, List·Memᴰ·not-nil}
 use mathlib.Core.Option.{some}
-use Prim.Native.Nat.{ℕ, zero, suc, _+_, _≤_, _<_}
+use Prim.Native.Nat.{ℕ, _+_, _≤_, _<_}
 use native.Mathlib.Omega.{arith}
 use native.Mathlib.Decide.{decLt}
 use lib.Dec.{ltb}
-use lib.ListN.{length, getD, drop, set, replicate, length-drop, getD-replicate, List·getD-eq-default, length-replicate, getElem?}
+use lib.ListN.{length, getD, drop, replicate, getElem?}
 use lib.Seq.{drop-drop}
 use Rattle.model.specs.Case as case
 use Rattle.model.specs.Case.{VA, MK, LN, Part, Within, Lower, tableOf}
@@ -20,6 +20,8 @@ use Rattle.model.proofs.Held.{HeldBy, unheld-false, unheld-true}
 use Rattle.model.proofs.Listed.{length-snoc, place-member, member-place, elem-append}
 use Rattle.model.proofs.Read.{clash}
 use Rattle.model.proofs.Rows.{table-rows, kind-row, past-cells}
+use Rattle.model.proofs.Stored.{kind-variable}
+use Rattle.theory.proofs.MarkRows.{no-mark}
 use Rattle.theory.specs.Cells.{On}
 use Rattle.casefile.specs.declared.cells.Table.{Table}
 use Rattle.casefile.specs.declared.events.Events.{Events}
@@ -28,7 +30,6 @@ use Rattle.casefile.specs.declared.events.Verdict.the-variants as verdic
 use Rattle.casefile.specs.Cells.{stored, Begun}
 use Rattle.casefile.specs.Events.{storedEvents, emptyEvents, withEvent, Among, Found, Ended, WithinMarked, looseSays, endedAs, readAs}
 use Rattle.casefile.proofs.ReadLaws.{read-fault, read-event, read-end, row-more}
-use Rattle.casefile.proofs.VariableLaws.{is-variable}
 use Rattle.casefile.proofs.WithinLaws.{within-part}
 
 -- A file whose cell records, with these cells, end at `base`, where the events' part begins.
@@ -48,26 +49,17 @@ pub record EventsSoFar (base : ℕ) (file : List ℕ) (cells : List case.Cell) (
   pub held : (v : ℕ) → On made v ↔ HeldBy (tableOf cells) list v
   pub left : readFrom 257 (drop (base + at) file) (base + at) (record { cells = cells; events = list }) ≡ readFile file
 
-abbrev zeros : List ℕ
-zeros = replicate 128 0
-
-none-on : (v : ℕ) → On zeros v → ⊥
-none-on v o = elim (decLt v 128) [
-  | yes h ↦ clash (sym (getD-replicate 128 v 0 0 h) ∙ o)
-  | no h ↦ clash (sym (List·getD-eq-default zeros 0 (long h)) ∙ o)
-]
-  where
-    long : (v < 128 → ⊥) → length zeros ≤ v
-    long h = omega (arith, length-replicate {A = ℕ} 128 0)
+abbrev noMarks : List ℕ
+noMarks = replicate 128 0
 
 module _ (rest : List ℕ) (base : ℕ) (t : Table) (file : List ℕ) (cells : List case.Cell) (x : Context rest base t file cells) where
-  pub events-start : (e : Events) → e ≡ emptyEvents → EventsSoFar base file cells 0 e zeros
+  pub events-start : (e : Events) → e ≡ emptyEvents → EventsSoFar base file cells 0 e noMarks
   events-start e i = record {
     list = [];
     table = i;
     few = omega arith;
     first = λ _. refl;
-    held = λ v. (λ o. absurd (none-on v o), λ (c, mem, w). absurd (List·Memᴰ·not-nil mem));
+    held = λ v. (λ o. absurd (no-mark 128 v o), λ (c, mem, w). absurd (List·Memᴰ·not-nil mem));
     left = ap (λ n. readFrom 257 (drop n file) n (record { cells = cells; events = [] })) zero-more ∙ x .whole;
   }
     where
@@ -180,13 +172,13 @@ module _ (rest : List ℕ) (base : ℕ) (t : Table) (file : List ℕ) (cells : L
             | inr m ↦ (let j : y ≡ c = cc (List·Memᴰ·eq-of-singleton m) in marked .all u (subst (Within (tableOf cells) u) j i))
           ]
 
-    module _ (c : ℕ) (held : List ℕ) (d : Found (drop at rest) (t .cells) (e .count) (LN c)) (w : WithinMarked (tableAt (t .kind) (t .first) (t .second)) zeros c held)
+    module _ (c : ℕ) (held : List ℕ) (d : Found (drop at rest) (t .cells) (e .count) (LN c)) (w : WithinMarked (tableAt (t .kind) (t .first) (t .second)) noMarks c held)
         (low : Lower (tableAt (t .kind) (t .first) (t .second))) where
       low′ : Lower (tableOf cells)
       low′ = subst Lower same-table low
 
-      inside : WithinMarked (tableOf cells) zeros c held
-      inside = subst (λ T. WithinMarked T zeros c held) same-table w
+      inside : WithinMarked (tableOf cells) noMarks c held
+      inside = subst (λ T. WithinMarked T noMarks c held) same-table w
 
       kind-at : (v : ℕ) → getD (t .kind) v 0 ≡ kind (tableOf cells v)
       kind-at v = ap (λ u. getD (u .kind) v 0) (x .table) ∙ kind-row cells v
@@ -199,10 +191,10 @@ module _ (rest : List ℕ) (base : ℕ) (t : Table) (file : List ℕ) (cells : L
 
       pub events-loose : looseSays (t .kind) held made true → readFile file ≡ Reading.refused 6 (base + at)
       events-loose (v, k, o, n) = sym (s .left) ∙ read-fault file (base + at) f room-left 6
-          (looks true (unheld-true (tableOf cells) low′ (s .list) c .1 (v, is-variable (tableOf cells v) (sym (kind-at v) ∙ k), stands, λ h. n (s .held v .1 h))))
+          (looks true (unheld-true (tableOf cells) low′ (s .list) c .1 (v, kind-variable (tableOf cells v) (sym (kind-at v) ∙ k), stands, λ h. n (s .held v .1 h))))
         where
           stands : Within (tableOf cells) v c
-          stands = elim (inside .only (λ u z o q. absurd (none-on u o)) v o) [ inl o′ ↦ absurd (none-on v o′) | inr i ↦ i ]
+          stands = elim (inside .only (λ u z o q. absurd (no-mark 128 u o)) v o) [ inl o′ ↦ absurd (no-mark 128 v o′) | inr i ↦ i ]
 
       pub events-learn : looseSays (t .kind) held made false → EventsSoFar base file cells (at + 3) (withEvent e 1 c) made
       events-learn h = events-more (LN c) d tied made (λ u. (λ o. held-before (LN c) d tied u (s .held u .0 o), from u))

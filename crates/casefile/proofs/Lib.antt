@@ -1,5 +1,6 @@
 -- The laws of the reader's definitions.
 pub mod RecordLaws
+pub mod TestLaws
 pub mod CellLaws
 pub mod ReadLaws
 pub mod CellLoop
@@ -8,4 +9,5 @@ pub mod EventLaws
 pub mod EventLoop
 pub mod VariableLaws
 pub mod CaseLaws
+pub mod CaseFile
 pub mod Theorems

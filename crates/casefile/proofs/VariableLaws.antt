@@ -1,28 +1,20 @@
 -- The first variable of stored cells.
-use mathlib.Core.Path.{_≡_, refl, sym, _∙_, ap}
+use mathlib.Core.Path.{_≡_, sym, _∙_, ap}
 use mathlib.Core.List.{List}
-use Prim.Native.Nat.{ℕ, _*_, _≤_, _<_}
+use Prim.Native.Nat.{ℕ, _*_, _<_}
 use native.Mathlib.Omega.{arith}
 use native.Mathlib.Decide.{decLt}
 use lib.ListN.{length, getD}
-use Rattle.model.specs.Message.{App, Pair, Seal}
-use Rattle.model.specs.Case.{Cell, AT, VA, ONE, TWO, tableOf}
+use Rattle.model.specs.Case.{Cell, tableOf}
 use Rattle.model.specs.Reduce.{kind}
 use Rattle.model.specs.Stored.{row}
 use Rattle.model.specs.Format.{firstVariable}
 use Rattle.model.proofs.Read.{clash}
 use Rattle.model.proofs.Rows.{kind-row, past-cells}
-use Rattle.model.proofs.Variables.{FirstAt, first-variable, no-variable}
+use Rattle.model.proofs.Stored.{kind-variable}
+use Rattle.model.proofs.Variables.{first-variable, no-variable}
 use Rattle.casefile.specs.declared.Found.the-variants as found
 use Rattle.casefile.specs.Case.{foundAt}
-
--- The kind of a stored cell is 1 exactly if the cell is a variable.
-pub is-variable : (k : Cell) → kind k ≡ 1 → k ≡ VA
-is-variable (AT n) i = clash (cc)
-is-variable VA i = refl
-is-variable (ONE (App g) a) i = absurd (omega arith)
-is-variable (TWO Pair l r) i = absurd (omega arith)
-is-variable (TWO Seal l r) i = absurd (omega arith)
 
 module _ (kinds : List ℕ) (cells : List Cell) (stored : kinds ≡ row kind cells) where
   kind-at : (c : ℕ) → getD kinds c 0 ≡ kind (tableOf cells c)
@@ -30,7 +22,7 @@ module _ (kinds : List ℕ) (cells : List Cell) (stored : kinds ≡ row kind cel
 
   pub variable-at : (i : ℕ) → getD kinds i 0 ≡ 1 → ((j : ℕ) → j < i → getD kinds j 0 ≡ 1 → ⊥) → found.At (4 * i) ≡ foundAt (firstVariable cells)
   variable-at i k before = sym (ap foundAt (first-variable cells i (record {
-    variable = is-variable (tableOf cells i) (sym (kind-at i) ∙ k);
+    variable = kind-variable (tableOf cells i) (sym (kind-at i) ∙ k);
     before = λ j h v. before j h (kind-at j ∙ ap kind v);
   })))
 

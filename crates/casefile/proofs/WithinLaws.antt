@@ -1,20 +1,20 @@
 -- Marking what stands in a cell, and variables that are held and not made.
-use mathlib.Core.Path.{_≡_, refl, sym, _∙_, ap, subst}
+use mathlib.Core.Path.{_≡_, refl, sym, _∙_, subst}
 use mathlib.Core.Logic.{_⊎_, inl, inr}
 use mathlib.Core.Bool.{Bool, true, false, cond, not}
 use mathlib.Core.List.{List}
 use Prim.Native.Nat.{ℕ, zero, suc, _+_, _≤_, _<_}
 use native.Mathlib.Omega.{arith}
 use native.Mathlib.Decide.{ℕ-discrete}
-use borrow.Author.Tests.{eq-eqb, ne-eqb, eqb-true, eqb-false}
+use borrow.Author.Tests.{eq-eqb, eqb-true, eqb-false}
 use lib.Dec.{eqb}
-use lib.ListN.{length, getD, set, length-set}
-use lib.Seq.{getD-set-same, getD-set-other}
+use lib.ListN.{length, set, length-set}
 use Rattle.model.specs.Case.{Table, Part, in-arg, in-left, in-right, Within, here, down, Lower}
 use Rattle.model.specs.Stored.{cellAt}
 use Rattle.theory.specs.Cells.{On}
+use Rattle.theory.proofs.MarkRows.{set-on, set-kept, set-cases}
 use Rattle.model.proofs.Read.{clash}
-use Rattle.casefile.specs.Events.{PartsMarked, WithinMarked, looseAt, looseSays}
+use Rattle.casefile.specs.Events.{PartsMarked, WithinMarked, looseAt}
 
 -- Where the parts of a stored cell stand.
 pub part-second : (k a b : ℕ) → 2 ≤ k → Part (cellAt k a b) b
@@ -52,19 +52,6 @@ part-two (suc (suc (suc zero))) a b h l in-left = inl refl
 part-two (suc (suc (suc zero))) a b h l in-right = inr refl
 part-two (suc (suc (suc (suc n)))) a b h l q = absurd (omega arith)
 
--- One mark more.
-pub on-set : (m : List ℕ) (i v : ℕ) → i < length m → On m v → On (set m i 1) v
-on-set m i v h o = elim (ℕ-discrete v i) [
-  | yes e ↦ subst (On (set m i 1)) (sym e) (getD-set-same m i 1 0 h)
-  | no ne ↦ getD-set-other m i v 1 0 ne ∙ o
-]
-
-pub set-on : (m : List ℕ) (i v : ℕ) → On (set m i 1) v → On m v ⊎ (v ≡ i)
-set-on m i v o = elim (ℕ-discrete v i) [ yes e ↦ inr e | no ne ↦ inl (sym (getD-set-other m i v 1 0 ne) ∙ o) ]
-
-pub on-here : (m : List ℕ) (i : ℕ) → i < length m → On (set m i 1) i
-on-here m i h = getD-set-same m i 1 0 h
-
 module _ (k a b : ℕ) (marks : List ℕ) (size : length marks ≡ 128) where
   pub mark-none : k < 2 → PartsMarked (cellAt k a b) marks marks
   mark-none h = record { size = size; kept = λ v o. o; parts = λ d q. absurd (part-none k a b h q); only = λ v o. inl o }
@@ -72,22 +59,22 @@ module _ (k a b : ℕ) (marks : List ℕ) (size : length marks ≡ 128) where
   pub mark-one : 4 ≤ k → b < 128 → PartsMarked (cellAt k a b) marks (set marks b 1)
   mark-one h lb = record {
     size = length-set marks b 1 ∙ size;
-    kept = λ v o. on-set marks b v (omega arith) o;
-    parts = λ d q. subst (On (set marks b 1)) (sym (part-one k a b h q)) (on-here marks b (omega arith));
-    only = λ v o. elim (set-on marks b v o) [ inl m ↦ inl m | inr e ↦ inr (subst (Part (cellAt k a b)) (sym e) (part-second k a b (omega arith))) ];
+    kept = λ v o. set-kept marks b (omega arith) v o;
+    parts = λ d q. subst (On (set marks b 1)) (sym (part-one k a b h q)) (set-on marks b (omega arith));
+    only = λ v o. elim (set-cases marks b v o) [ inr m ↦ inl m | inl e ↦ inr (subst (Part (cellAt k a b)) (sym e) (part-second k a b (omega arith))) ];
   }
 
   pub mark-two : 2 ≤ k → k < 4 → b < 128 → a < 128 → PartsMarked (cellAt k a b) marks (set (set marks b 1) a 1)
   mark-two h l lb la = record {
     size = length-set (set marks b 1) a 1 ∙ (length-set marks b 1 ∙ size);
-    kept = λ v o. on-set (set marks b 1) a v in-a (on-set marks b v (omega arith) o);
+    kept = λ v o. set-kept (set marks b 1) a in-a v (set-kept marks b (omega arith) v o);
     parts = λ d q. elim (part-two k a b h l q) [
-      | inl e ↦ subst (On (set (set marks b 1) a 1)) (sym e) (on-here (set marks b 1) a in-a)
-      | inr e ↦ subst (On (set (set marks b 1) a 1)) (sym e) (on-set (set marks b 1) a b in-a (on-here marks b (omega arith)))
+      | inl e ↦ subst (On (set (set marks b 1) a 1)) (sym e) (set-on (set marks b 1) a in-a)
+      | inr e ↦ subst (On (set (set marks b 1) a 1)) (sym e) (set-kept (set marks b 1) a in-a b (set-on marks b (omega arith)))
     ];
-    only = λ v o. elim (set-on (set marks b 1) a v o) [
-      | inr e ↦ inr (subst (Part (cellAt k a b)) (sym e) (part-first k a b h l))
-      | inl o′ ↦ elim (set-on marks b v o′) [ inl m ↦ inl m | inr e ↦ inr (subst (Part (cellAt k a b)) (sym e) (part-second k a b h)) ]
+    only = λ v o. elim (set-cases (set marks b 1) a v o) [
+      | inl e ↦ inr (subst (Part (cellAt k a b)) (sym e) (part-first k a b h l))
+      | inr o′ ↦ elim (set-cases marks b v o′) [ inr m ↦ inl m | inl e ↦ inr (subst (Part (cellAt k a b)) (sym e) (part-second k a b h)) ]
     ];
   }
     where
@@ -152,15 +139,15 @@ module _ (T : Table) (low : Lower T) (c : ℕ) (marks : List ℕ) (size : length
   pub within-marked : WithinMarked T marks c m
   within-marked = record {
     size = s .size;
-    kept = λ v o. s .kept v (on-set marks c v (omega arith) o);
-    only = λ cl v o. elim (s .only (closing cl) v o) [ inr w ↦ inr w | inl o₀ ↦ elim (set-on marks c v o₀) [ inl o₁ ↦ inl o₁ | inr e ↦ inr (here e) ] ];
-    all = λ v w. descends w (omega arith) (s .kept c (on-here marks c (omega arith)));
+    kept = λ v o. s .kept v (set-kept marks c (omega arith) v o);
+    only = λ cl v o. elim (s .only (closing cl) v o) [ inr w ↦ inr w | inl o₀ ↦ elim (set-cases marks c v o₀) [ inr o₁ ↦ inl o₁ | inl e ↦ inr (here e) ] ];
+    all = λ v w. descends w (omega arith) (s .kept c (set-on marks c (omega arith)));
   }
     where
       closing : ((x d : ℕ) → On marks x → Part (T x) d → On marks d) → Closing T c (set marks c 1)
-      closing cl x d o q = elim (set-on marks c x o) [
-        | inl o₁ ↦ inl (on-set marks c d (omega arith) (cl x d o₁ q))
-        | inr e ↦ inr (down (subst (λ x. Part (T x) d) e q) (here refl))
+      closing cl x d o q = elim (set-cases marks c x o) [
+        | inr o₁ ↦ inl (set-kept marks c (omega arith) d (cl x d o₁ q))
+        | inl e ↦ inr (down (subst (λ x. Part (T x) d) e q) (here refl))
       ]
 
 -- Variables that are held and not made.

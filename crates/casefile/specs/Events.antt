@@ -3,14 +3,13 @@ use mathlib.Core.Path.{_≡_}
 use mathlib.Core.Logic.{_⊎_}
 use mathlib.Core.Bool.{Bool, true, false, cond, not}
 use mathlib.Core.List.{List, []}
-use mathlib.Core.Option.{some}
 use Prim.Native.Nat.{ℕ, _+_, _≤_, _<_}
 use lib.Dec.{ltb, eqb}
 use lib.ListN.{length, getD, drop, set, replicate}
 use Rattle.model.specs.Case as case
-use Rattle.model.specs.Case.{Part, Within, Lower, tableOf}
-use Rattle.model.specs.Stored.{cellAt, tableAt, asks, aim, row}
-use Rattle.model.specs.Format.{Kind, kindOf, isCell, width, recordAt, Record, loose, check, Checked, Reading, readFrom, readFile}
+use Rattle.model.specs.Case.{Part, Within}
+use Rattle.model.specs.Stored.{cellAt, asks, aim, row}
+use Rattle.model.specs.Format.{Kind, width, recordAt, Record, loose, check, Checked, Reading, readFrom, readFile}
 use Rattle.theory.specs.Cells.{On}
 use Rattle.casefile.specs.declared.record.Mark.{Mark}
 use Rattle.casefile.specs.declared.record.Mark.the-variants as mark

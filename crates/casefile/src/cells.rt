@@ -3,8 +3,8 @@ use super::record::Fields;
 use super::record::Mark;
 use super::record::Record;
 ghost use mathlib.Core.Path.{_≡_};
-ghost use Prim.Native.Nat.{_+_, _<_, _≤_};
-ghost use lib.ListN.{length, drop};
+ghost use Prim.Native.Nat.{_+_, _<_};
+ghost use lib.ListN.{drop};
 ghost use Rattle.casefile.specs.Record.{markAt};
 ghost use Rattle.casefile.specs.Cells.{sectionOf, cellFor, partsBelow, sizeOf, emptyTable, withCell, cellSays, CellsRead, inCells};
 

@@ -6,7 +6,7 @@ use super::record::Mark;
 use super::record::Record;
 ghost use mathlib.Core.Path.{_≡_};
 ghost use Prim.Native.Nat.{_+_, _<_, _≤_, _^_};
-ghost use lib.ListN.{length, drop, replicate};
+ghost use lib.ListN.{length, drop};
 ghost use Rattle.model.specs.Stored.{tableAt, cellAt};
 ghost use Rattle.model.specs.Case.{Lower};
 ghost use Rattle.casefile.specs.Record.{markAt};

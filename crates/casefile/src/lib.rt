@@ -9,7 +9,7 @@ use events::Events;
 use events::Verdict;
 ghost use mathlib.Core.Path.{_≡_};
 ghost use Prim.Native.Nat.{_≤_};
-ghost use Rattle.model.specs.Format.{readFile, Reading};
+ghost use Rattle.model.specs.Format.{readFile};
 ghost use Rattle.casefile.specs.Case.{caseOf, refusal, VariableFound};
 
 // The offset of the first VA record.

@@ -12,12 +12,12 @@ use borrow.Author.Tests.{eq-eqb, ne-eqb, eqb-true}
 use Rattle.model.specs.Case.{Table}
 use Rattle.model.specs.Stored.{tableAt}
 use Rattle.model.proofs.Finite.{eq?}
+use Rattle.model.proofs.Stored.{var-kind, kind-var}
 use Rattle.theory.specs.Cells.{classAt}
 use Rattle.theory.specs.Classes.{Joins}
 use Rattle.theory.proofs.Classes.{sat-joins}
 use Rattle.theory.proofs.Merge.{relabel-joins, relabel-reps}
 use Rattle.classes.specs.Kept.{Kept, classCount, Stands, Relabelled, Joined}
-use Rattle.classes.proofs.CellLaws.{var-kind, kind-var}
 use Rattle.classes.proofs.Count.{count-lt}
 
 -- y is x, or r if x is o.

@@ -1,5 +1,4 @@
 pub mod Count
-pub mod CellLaws
 pub mod RowLaws
 pub mod JoinLaws
 pub mod DifferLaws
@@ -8,5 +7,4 @@ pub mod TwinLaws
 pub mod SolvedLaws
 pub mod SettleLaws
 pub mod PeelLaws
-pub mod UnifyLaws
 pub mod UpwardLaws

@@ -2,27 +2,26 @@
 use mathlib.Core.Path.{_≡_, refl, sym, _∙_, ap, subst}
 use mathlib.Core.Bool.{Bool, true, false, cond, not, true≢false, false≢true}
 use mathlib.Core.List.{List}
-use mathlib.Core.Logic.{_⊎_, inl, inr}
+use mathlib.Core.Logic.{inl, inr}
 use Prim.Native.Nat.{ℕ, zero, suc, _+_, _≤_, _<_, min}
 use native.Mathlib.Omega.{arith}
 use native.Mathlib.Decide.{decLt}
 use native.Mathlib.Nat.{min-eq-left, min-eq-right}
 use lib.Dec.{eqb}
-use lib.ListN.{length, getD, set, length-set, replicate, length-replicate, getD-replicate, List·getD-eq-default}
-use lib.Seq.{getD-set-same, getD-set-other}
+use lib.ListN.{length, getD, set, length-set, replicate, length-replicate}
 use borrow.Author.Count.{below-more}
 use borrow.Author.Tests.{eq-eqb, ne-eqb}
 use Rattle.model.specs.Message.{One, Two}
 use Rattle.model.specs.Case.{ONE, TWO, Table, Part, in-arg, in-left, in-right}
 use Rattle.model.specs.Stored.{cellAt, tableAt}
-use Rattle.model.proofs.Finite.{eq?}
+use Rattle.model.proofs.Rows.{zeros}
 use Rattle.theory.specs.Cells.{Rows, On, classAt}
 use Rattle.theory.proofs.Answers.{round-no}
+use Rattle.theory.proofs.Rows.{rows-beyond, rows-part}
 use Rattle.classes.specs.Kept.{Kept, Finite, Unmet}
 use Rattle.classes.specs.Peel.{Done, classTable, Peeled, Fresh, undone, Peels}
 use Rattle.classes.proofs.Count.{count-lt}
-use Rattle.classes.proofs.RowLaws.{rows-beyond}
-use Rattle.classes.proofs.SettleLaws.{part-inside}
+use Rattle.theory.proofs.MarkRows.{set-cases, set-on, set-kept}
 
 -- ---- the parts of a cell, by its kind
 parts-one : (marks : List ℕ) (g : One) (a : ℕ) → On marks a → Done marks (ONE g a)
@@ -63,30 +62,21 @@ module _ (marks : List ℕ) where
   done-first (suc (suc (suc (suc k)))) a b l m ne h = absurd (omega arith)
 
 -- ---- one more mark
+unmarked : (l : List ℕ) (x : ℕ) → (On l x → ⊥) → not (eqb (getD l x 0) 1) ≡ true
+unmarked l x ne = rw (ne-eqb (getD l x 0) 1 ne)
+
+marked : (l : List ℕ) (x : ℕ) → On l x → not (eqb (getD l x 0) 1) ≡ false
+marked l x o = rw (eq-eqb (getD l x 0) 1 o)
+
 module _ (marks : List ℕ) (c : ℕ) (h : c < length marks) where
   abbrev next : List ℕ
   next = set marks c 1
 
-  on-here : On next c
-  on-here = getD-set-same marks c 1 0 h
-
-  on-cases : (x : ℕ) → On next x → (x ≡ c) ⊎ On marks x
-  on-cases x o = elim (eq? x c) [ inl e ↦ inl e | inr ne ↦ inr (sym (getD-set-other marks c x 1 0 ne) ∙ o) ]
-
-  on-kept : (x : ℕ) → On marks x → On next x
-  on-kept x o = elim (eq? x c) [ inl e ↦ subst (On next) (sym e) on-here | inr ne ↦ getD-set-other marks c x 1 0 ne ∙ o ]
-
-  unmarked : (l : List ℕ) (x : ℕ) → (On l x → ⊥) → not (eqb (getD l x 0) 1) ≡ true
-  unmarked l x ne = rw (ne-eqb (getD l x 0) 1 ne)
-
-  marked : (l : List ℕ) (x : ℕ) → On l x → not (eqb (getD l x 0) 1) ≡ false
-  marked l x o = rw (eq-eqb (getD l x 0) 1 o)
-
   pub undone-less : (On marks c → ⊥) → c < 129 → undone next < undone marks
   undone-less fresh small =
       count-lt (λ x. not (eqb (getD marks x 0) 1)) (λ x. not (eqb (getD next x 0) 1))
-      (λ x e. unmarked marks x (λ o. true≢false (sym e ∙ marked next x (on-kept x o))))
-      c (unmarked marks c fresh) (marked next c on-here) 129 small
+      (λ x e. unmarked marks x (λ o. true≢false (sym e ∙ marked next x (set-kept marks c h x o))))
+      c (unmarked marks c fresh) (marked next c (set-on marks c h)) 129 small
 
   module _ (S : Table) (P : Peeled S marks) (fresh : On marks c → ⊥) (parts : Done marks (S c)) where
     rank : ℕ → ℕ
@@ -101,28 +91,22 @@ module _ (marks : List ℕ) (c : ℕ) (h : c < length marks) where
     rank-old x o = rw (ne-eqb x c (λ e. fresh (subst (On marks) e o)))
 
     below : (x : ℕ) → On next x → rank x < P .top + 1
-    below x o = elim (on-cases x o) [
+    below x o = elim (set-cases marks c x o) [
       | inl e ↦ omega (arith, rank-here x e)
       | inr i ↦ omega (arith, rank-old x i, P .below x i)
     ]
 
     lower : (x d : ℕ) → On next x → Part (S x) d → On next d × (rank d < rank x)
-    lower x d o p = elim (on-cases x o) [
+    lower x d o p = elim (set-cases marks c x o) [
       | inl e ↦ (let i : On marks d = parts d (subst (λ y. Part (S y) d) e p) in
-          (on-kept d i, omega (arith, rank-here x e, rank-old d i, P .below d i)))
-      | inr i ↦ (let (j, l) = P .lower x d i p in (on-kept d j, omega (arith, rank-old x i, rank-old d j)))
+          (set-kept marks c h d i, omega (arith, rank-here x e, rank-old d i, P .below d i)))
+      | inr i ↦ (let (j, l) = P .lower x d i p in (set-kept marks c h d j, omega (arith, rank-old x i, rank-old d j)))
     ]
 
     pub peeled-more : Peeled S next
     peeled-more = record { long = length-set marks c 1 ∙ P .long; rank = rank; top = P .top + 1; below = below; lower = lower }
 
 -- At the start nothing is marked.
-zeros : (n c : ℕ) → _≡_ {A = ℕ} (getD (replicate n 0) c 0) 0
-zeros n c = elim (decLt c n) [
-  | yes h ↦ getD-replicate n c 0 0 h
-  | no h ↦ (let row : List ℕ = replicate n 0 in let e : length row ≡ n = length-replicate n 0 in List·getD-eq-default row 0 (omega arith))
-]
-
 pub peeled-none : (S : Table) → Peeled S (replicate 129 0)
 peeled-none S =
     record {
@@ -160,7 +144,7 @@ module _ (S : Table) (marks : List ℕ) where
         }
 
 -- ---- what the marks say of the classes
-module _ (n : ℕ) (kinds firsts seconds : List ℕ) (w : Rows n kinds firsts seconds) (rep : List ℕ) (K : Kept n (tableAt kinds firsts seconds) rep) (marks : List ℕ) where
+module _ {n : ℕ} {kinds firsts seconds rep : List ℕ} (w : Rows n kinds firsts seconds) (K : Kept n (tableAt kinds firsts seconds) rep) (marks : List ℕ) where
   abbrev S : Table
   S = classTable (tableAt kinds firsts seconds) rep
 
@@ -168,7 +152,7 @@ module _ (n : ℕ) (kinds firsts seconds : List ℕ) (w : Rows n kinds firsts se
   class-min : (c : ℕ) → classAt rep c ≡ classAt rep (min c n)
   class-min c = elim (decLt c n) [
     | yes h ↦ ap (classAt rep) (sym (min-eq-left (le h)))
-    | no h ↦ K .names c n 0 (rows-beyond n kinds firsts seconds w c (omega arith)) (rows-beyond n kinds firsts seconds w n (omega arith)) ∙ ap (classAt rep) (sym (min-eq-right (omega arith)))
+    | no h ↦ K .names c n 0 (rows-beyond w c (omega arith)) (rows-beyond w n (omega arith)) ∙ ap (classAt rep) (sym (min-eq-right (omega arith)))
   ]
     where
       le : c < n → c ≤ n
@@ -178,7 +162,7 @@ module _ (n : ℕ) (kinds firsts seconds : List ℕ) (w : Rows n kinds firsts se
   part-min c d = subst (λ k. Part (tableAt kinds firsts seconds k) d) (class-min c)
 
   part-low : (c d : ℕ) → Part (S c) d → min d n ≡ d
-  part-low c d p = let (h, i) = part-inside n kinds firsts seconds w (classAt rep c) d p in min-eq-left (omega arith)
+  part-low c d p = let (h, i) = rows-part w (classAt rep c) d p in min-eq-left (omega arith)
 
   pub peeled-finite : Peeled S marks → ((c : ℕ) → c < n + 1 → On marks c) → Finite (tableAt kinds firsts seconds) (classAt rep)
   peeled-finite P all = (

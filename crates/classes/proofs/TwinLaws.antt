@@ -9,9 +9,9 @@ use lib.ListN.{length, getD, set}
 use lib.Seq.{getD-set-same, getD-set-other}
 use borrow.Author.Count.{below-more}
 use Rattle.model.specs.Message.{Message, atom}
-use Rattle.model.specs.Case.{Cell, AT, VA, ONE, TWO, Table, look, Reads, Lower, Ground}
+use Rattle.model.specs.Case.{Cell, AT, VA, ONE, TWO, Table, Reads, Lower, Ground}
 use Rattle.model.proofs.Finite.{eq?}
-use Rattle.model.proofs.Read.{var?, clash}
+use Rattle.model.proofs.Read.{var?, clash, look-solid}
 use Rattle.theory.specs.Cells.{classAt}
 use Rattle.theory.specs.Classes.{Alike, atoms, ones, twos, Closed, Reps}
 use Rattle.theory.proofs.Classes.{alike-parts, alike-sym, alike-solid, list-classes}
@@ -29,13 +29,6 @@ alike-self (AT n) s = atoms
 alike-self VA s = absurd (s refl)
 alike-self (ONE g a) s = ones refl
 alike-self (TWO h l r) s = twos refl refl
-
--- What a cell that is no variable shows does not depend on its value.
-look-solid : (v w : Message) (m : ℕ → Message) (k : Cell) → (k ≡ VA → ⊥) → look v m k ≡ look w m k
-look-solid v w m (AT n) s = refl
-look-solid v w m VA s = absurd (s refl)
-look-solid v w m (ONE g a) s = refl
-look-solid v w m (TWO h l r) s = refl
 
 module _ (T : Table) (low : Lower T) where
   -- The parts of cells up to c lie below c, so other classes that are the same there say the same.
@@ -141,13 +134,15 @@ module _ (n : ℕ) (T : Table) (low : Lower T) (rep : List ℕ) (long : length r
         alone = λ c v. firsts c .alone v;
       }
 
--- Of a table without variables: cells show one message exactly if they are of one class.
+-- ---- a table without variables
+
+pub ground-reads : (T : Table) (m : ℕ → Message) → ((c : ℕ) → T c ≡ VA → ⊥) → Ground T m → Reads T m m
+ground-reads T m solid ground c = ground c ∙ look-solid (atom 0) (m c) m (T c) (solid c)
+
+-- Cells show one message exactly if they are of one class.
 pub start-twins : (n : ℕ) (T : Table) (rep : List ℕ) → Start n T rep → ((c : ℕ) → T c ≡ VA → ⊥) → (m : ℕ → Message) → Ground T m →
     (c d : ℕ) → (m c ≡ m d) ↔ (classAt rep c ≡ classAt rep d)
 start-twins n T rep w solid m ground c d = (
   λ e. twins T m ground (λ c. Unit) (λ c d h p. tt) (λ c h. solid c) (classAt rep) (λ c d h h′ a. w .up c d a) c d tt tt e,
   λ e. (let s = w .met m (ground-reads T m solid ground) in cc (s c, s d)),
 )
-  where
-    ground-reads : (T : Table) (m : ℕ → Message) → ((c : ℕ) → T c ≡ VA → ⊥) → Ground T m → Reads T m m
-    ground-reads T m solid ground c = ground c ∙ look-solid (atom 0) (m c) m (T c) (solid c)

@@ -1,9 +1,9 @@
 -- Joins of cells that are alike keep solved classes solved, and the messages that satisfy them; where none is left, cells that are alike are of one class.
 use mathlib.Core.Path.{_≡_, refl, sym, _∙_, ap, subst}
-use mathlib.Core.Bool.{Bool, true, false, cond, true≢false, false≢true}
+use mathlib.Core.Bool.{Bool, true, false, cond, true≢false}
 use mathlib.Core.List.{List}
-use mathlib.Core.Logic.{_↔_, inl, inr}
-use Prim.Native.Nat.{ℕ, _+_, _≤_, _<_}
+use mathlib.Core.Logic.{inl, inr}
+use Prim.Native.Nat.{ℕ, _+_, _<_}
 use native.Mathlib.Omega.{arith}
 use native.Mathlib.Decide.{decLt}
 use lib.Dec.{eqb}
@@ -18,13 +18,15 @@ use Rattle.theory.specs.Cells.{Rows, classAt}
 use Rattle.theory.specs.Classes.{Alike, atoms, Closed, Sat}
 use Rattle.theory.proofs.Classes.{alike-parts, alike-sym, alike-solid, alike-look, reads-ranked}
 use Rattle.theory.proofs.Level.{class-reads}
-use Rattle.classes.specs.Kept.{Kept, classCount, Finite, Solved, Joined}
+use Rattle.theory.proofs.Rows.{rows-beyond}
+use Rattle.classes.specs.Kept.{Kept, Finite, Solved, Joined}
 use Rattle.classes.specs.Twins.{Twin}
 use Rattle.classes.specs.declared.upward.Lifted.{Lifted}
-use Rattle.classes.specs.Upward.{Climbs, Met, Meets, Lifts}
-use Rattle.classes.proofs.RowLaws.{rows-beyond}
+use Rattle.classes.specs.Settle.{Moved}
+use Rattle.classes.specs.Upward.{Met, Meets, Lifts}
 use Rattle.classes.proofs.TwinLaws.{alike-trans, alike-self}
 use Rattle.classes.proofs.SolvedLaws.{solved-met}
+use Rattle.classes.proofs.SettleLaws.{moved-none, moved-join, moved-more, moved-stay}
 
 -- ---- one join of cells that are alike
 
@@ -95,18 +97,9 @@ module _ (n : ℕ) (T : Table) (rep out : List ℕ) (a b : ℕ) (w : Solved n T 
       let (τ, g, mr, s) = solved-met n T rep w (λ y. atom 0) in
       (λ c. size (τ c), reads-ranked (λ c. T (new c)) τ τ (class-reads T new τ mr (j .sat τ .1 (s, equal τ mr s))))
 
-  pub climbs-join : (classAt rep a ≡ classAt rep b → ⊥) → Climbs n T rep out true
-  climbs-join ne =
-      record {
-        solved = record { kept = j .kept; closed = closed; finite = finite };
-        sat = λ m mr. (λ s. j .sat m .1 (s, equal m mr s), λ s. j .sat m .0 s .0);
-        most = j .most;
-        fewer = λ _. j .fewer ne;
-        still = λ e. absurd (true≢false e);
-      }
-
-pub climbs-none : (n : ℕ) (T : Table) (rep : List ℕ) → Solved n T rep → Climbs n T rep rep false
-climbs-none n T rep w = record { solved = w; sat = λ m mr. (λ s. s, λ s. s); most = omega arith; fewer = λ e. absurd (false≢true e); still = λ _. refl }
+  -- So they may be joined.
+  alike-join : (classAt rep a ≡ classAt rep b → ⊥) → Moved T (Solved n T) rep out true
+  alike-join ne = moved-join j (record { kept = j .kept; closed = closed; finite = finite }) ne equal
 
 -- The cell c and its lowest twin t: of two classes and joined, or of one.
 module _ (n : ℕ) (T : Table) (rep : List ℕ) (w : Solved n T rep) (c t : ℕ) (tw : Twin T (classAt rep) c t) where
@@ -114,68 +107,34 @@ module _ (n : ℕ) (T : Table) (rep : List ℕ) (w : Solved n T rep) (c t : ℕ)
   twin-alike ne = alike-sym (tw .hit (elim (eq? t c) [ inl e ↦ absurd (ne (ap (classAt rep) e)) | inr ne ↦ omega (arith, tw .low) ]))
 
   pub meets-join : (out : List ℕ) → (classAt rep t ≡ classAt rep c → ⊥) → Joined n T rep t c out → Meets n T rep c (record { changed = true; rep = out })
-  meets-join out ne j = record { climbs = climbs-join n T rep out t c w (twin-alike ne) j ne; met = λ e. absurd (true≢false e) }
+  meets-join out ne j = record { moved = alike-join n T rep out t c w (twin-alike ne) j ne; met = λ e. absurd (true≢false e) }
 
   pub meets-same : classAt rep t ≡ classAt rep c → Meets n T rep c (record { changed = false; rep = rep })
-  meets-same e = record { climbs = climbs-none n T rep w; met = λ _. (t, tw, e) }
+  meets-same e = record { moved = moved-none rep w; met = λ _. (t, tw, e) }
 
 -- ---- sweeps
 
-module _ (n : ℕ) (T : Table) (rep : List ℕ) where
+module _ {n : ℕ} {T : Table} {rep : List ℕ} where
   pub lifts-none : Solved n T rep → Lifts n T rep 0 rep false
-  lifts-none w = record { climbs = climbs-none n T rep w; met = λ _ c h. absurd (omega arith) }
+  lifts-none w = record { moved = moved-none rep w; met = λ _ c h. absurd (omega arith) }
 
-  module _ (out next : List ℕ) (old new : Bool) (v : Climbs n T rep out old) (w : Climbs n T out next new) where
-    sat-trans : (m : ℕ → Message) → Reads T m m → Sat (classAt rep) m ↔ Sat (classAt next) m
-    sat-trans m mr = (λ s. w .sat m mr .0 (v .sat m mr .0 s), λ s. v .sat m mr .1 (w .sat m mr .1 s))
-
-    climbs-more : new ≡ true → Climbs n T rep next true
-    climbs-more e =
-        record {
-          solved = w .solved;
-          sat = sat-trans;
-          most = omega (arith, v .most, w .most);
-          fewer = λ _. omega (arith, v .most, w .fewer e);
-          still = λ i. absurd (true≢false i);
-        }
-
-    climbs-stay : new ≡ false → Climbs n T rep next old
-    climbs-stay e = subst (λ (l : List ℕ). Climbs n T rep l old) (sym (w .still e)) v
-
-  module _ (out : List ℕ) (old : Bool) (c : ℕ) (v : Lifts n T rep c out old) (r : Lifted) (w : Meets n T out c r) where
+  module _ {out : List ℕ} {old : Bool} {c : ℕ} (v : Lifts n T rep c out old) {r : Lifted} (w : Meets n T out c r) where
     pub lifts-more : r .changed ≡ true → Lifts n T rep (c + 1) (r .rep) true
-    lifts-more e = record { climbs = climbs-more out (r .rep) old (r .changed) (v .climbs) (w .climbs) e; met = λ i. absurd (true≢false i) }
+    lifts-more e = record { moved = moved-more (v .moved) (w .moved) e; met = λ i. absurd (true≢false i) }
 
     pub lifts-stay : r .changed ≡ false → Lifts n T rep (c + 1) (r .rep) old
     lifts-stay e =
         record {
-          climbs = climbs-stay out (r .rep) old (r .changed) (v .climbs) (w .climbs) e;
-          met = λ i. below-more (Met T (classAt rep)) c (v .met i) (subst (λ (l : List ℕ). Met T (classAt l) c) (v .climbs .still i) (w .met e));
+          moved = moved-stay (v .moved) (w .moved) e;
+          met = λ i. below-more (Met T (classAt rep)) c (v .met i) (subst (λ (l : List ℕ). Met T (classAt l) c) (v .moved .still i) (w .met e));
         }
-
--- The classes out after some sweeps over rep.
-pub record Rise (n : ℕ) (T : Table) (rep out : List ℕ) : Type 0 where
-  pub solved : Solved n T out
-  pub sat : (m : ℕ → Message) → Reads T m m → Sat (classAt rep) m ↔ Sat (classAt out) m
-  pub most : classCount out ≤ classCount rep
-
-pub rise-none : (n : ℕ) (T : Table) (rep : List ℕ) → Solved n T rep → Rise n T rep rep
-rise-none n T rep w = record { solved = w; sat = λ m mr. (λ s. s, λ s. s); most = omega arith }
-
-pub rise-more : (n : ℕ) (T : Table) (rep out next : List ℕ) (changed : Bool) → Rise n T rep out → Climbs n T out next changed → Rise n T rep next
-rise-more n T rep out next changed v w =
-    record {
-      solved = w .solved;
-      sat = λ m mr. (λ s. w .sat m mr .0 (v .sat m mr .0 s), λ s. v .sat m mr .1 (w .sat m mr .1 s));
-      most = omega (arith, v .most, w .most);
-    }
 
 -- ---- nothing is left to join
 
 name-alike : {f : ℕ → ℕ} {p : ℕ} {k : Cell} → Alike f (AT p) k → k ≡ AT p
 name-alike atoms = refl
 
-module _ (n : ℕ) (kinds firsts seconds : List ℕ) (w : Rows n kinds firsts seconds) (rep : List ℕ) (k : Kept n (tableAt kinds firsts seconds) rep)
+module _ {n : ℕ} {kinds firsts seconds rep : List ℕ} (w : Rows n kinds firsts seconds) (k : Kept n (tableAt kinds firsts seconds) rep)
     (met : (c : ℕ) → c < n → Met (tableAt kinds firsts seconds) (classAt rep) c) where
   abbrev S : Table
   S = tableAt kinds firsts seconds
@@ -205,9 +164,9 @@ module _ (n : ℕ) (kinds firsts seconds : List ℕ) (w : Rows n kinds firsts se
 
   pub met-up : (c d : ℕ) → Alike (classAt rep) (S c) (S d) → classAt rep c ≡ classAt rep d
   met-up c d h = elim (decLt c n) [
-    | no a ↦ up-name c d (rows-beyond n kinds firsts seconds w c (omega arith)) h
+    | no a ↦ up-name c d (rows-beyond w c (omega arith)) h
     | yes a ↦ elim (decLt d n) [
-      | no b ↦ sym (up-name d c (rows-beyond n kinds firsts seconds w d (omega arith)) (alike-sym h))
+      | no b ↦ sym (up-name d c (rows-beyond w d (omega arith)) (alike-sym h))
       | yes b ↦ up-cells c d a b h
     ]
   ]

@@ -33,9 +33,9 @@ sameOf Same r = r ≡ true
 sameOf Clash r = r ≡ false
 sameOf (Parts x y) r = r ≡ false
 
--- The classes out are those of rep after joins that all messages that satisfy rep ask for; changed says whether there were any.
-pub record Moved (n : ℕ) (T : Table) (rep out : List ℕ) (changed : Bool) : Type 0 where
-  pub kept : Kept n T out
+-- The classes out, of which P holds, are those of rep after joins that all messages that satisfy rep ask for; changed says whether there were any.
+pub record Moved (T : Table) (P : List ℕ → Type 0) (rep out : List ℕ) (changed : Bool) : Type 0 where
+  pub holds : P out
   pub sat : (m : ℕ → Message) → Reads T m m → Sat (classAt rep) m ↔ Sat (classAt out) m
   pub most : classCount out ≤ classCount rep
   pub fewer : changed ≡ true → classCount out < classCount rep
@@ -44,13 +44,13 @@ pub record Moved (n : ℕ) (T : Table) (rep out : List ℕ) (changed : Bool) : T
 -- A binding step at the cell c.
 pub record Bound (n : ℕ) (T : Table) (rep : List ℕ) (c : ℕ) (r : Swept) : Type 0 where
   pub no : r .ok ≡ false → Unmet T (classAt rep)
-  pub yes : r .ok ≡ true → Moved n T rep (r .rep) (r .changed)
+  pub yes : r .ok ≡ true → Moved T (Kept n T) rep (r .rep) (r .changed)
   pub shut : r .ok ≡ true → r .changed ≡ false → Shut T (classAt rep) c
 
 -- A binding step at each of the cells below upto.
 pub record Sweeps (n : ℕ) (T : Table) (rep : List ℕ) (upto : ℕ) (r : Swept) : Type 0 where
   pub no : r .ok ≡ false → Unmet T (classAt rep)
-  pub yes : r .ok ≡ true → Moved n T rep (r .rep) (r .changed)
+  pub yes : r .ok ≡ true → Moved T (Kept n T) rep (r .rep) (r .changed)
   pub shut : r .ok ≡ true → r .changed ≡ false → (c : ℕ) → c < upto → Shut T (classAt rep) c
 
 -- Nothing is left to join, and the same messages satisfy the classes; or none do.

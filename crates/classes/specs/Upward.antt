@@ -1,7 +1,7 @@
 -- Closing the classes upwards: cells that are alike, by the classes of their parts, are put into one class.
--- Climbs: what such joins keep; Met: a cell is of one class with the lowest that is alike; Meets, Lifts, Raised: the functions.
+-- Met: a cell is of one class with the lowest that is alike; Meets, Lifts, Raised: the functions.
 use mathlib.Core.Path.{_≡_}
-use mathlib.Core.Bool.{Bool, true, false}
+use mathlib.Core.Bool.{Bool, false}
 use mathlib.Core.List.{List}
 use mathlib.Core.Logic.{_↔_}
 use Prim.Native.Nat.{ℕ, _≤_, _<_}
@@ -12,14 +12,7 @@ use Rattle.theory.specs.Classes.{Alike, Sat}
 use Rattle.classes.specs.declared.upward.Lifted.{Lifted}
 use Rattle.classes.specs.Kept.{classCount, Solved}
 use Rattle.classes.specs.Twins.{Twin}
-
--- The classes out are those of rep after joins of cells that are alike; changed says whether there were any.
-pub record Climbs (n : ℕ) (T : Table) (rep out : List ℕ) (changed : Bool) : Type 0 where
-  pub solved : Solved n T out
-  pub sat : (m : ℕ → Message) → Reads T m m → Sat (classAt rep) m ↔ Sat (classAt out) m
-  pub most : classCount out ≤ classCount rep
-  pub fewer : changed ≡ true → classCount out < classCount rep
-  pub still : changed ≡ false → out ≡ rep
+use Rattle.classes.specs.Settle.{Moved}
 
 -- The cell c is of one class with the lowest cell that is alike.
 abbrev pub Met : Table → (ℕ → ℕ) → ℕ → Type 0
@@ -27,12 +20,12 @@ Met T cls c = (t : ℕ) × Twin T cls c t × (cls t ≡ cls c)
 
 -- One cell.
 pub record Meets (n : ℕ) (T : Table) (rep : List ℕ) (c : ℕ) (r : Lifted) : Type 0 where
-  pub climbs : Climbs n T rep (r .rep) (r .changed)
+  pub moved : Moved T (Solved n T) rep (r .rep) (r .changed)
   pub met : r .changed ≡ false → Met T (classAt rep) c
 
 -- Each of the cells below upto.
 pub record Lifts (n : ℕ) (T : Table) (rep : List ℕ) (upto : ℕ) (out : List ℕ) (changed : Bool) : Type 0 where
-  pub climbs : Climbs n T rep out changed
+  pub moved : Moved T (Solved n T) rep out changed
   pub met : changed ≡ false → (c : ℕ) → c < upto → Met T (classAt rep) c
 
 -- Solved classes that the same messages satisfy, in which cells that are alike are of one class.

@@ -1,68 +1,67 @@
--- The replies of equating as numbers: each fits, and tells its reply.
-use mathlib.Core.Path.{_≡_, refl, sym, _∙_, ap, subst}
-use mathlib.Core.Logic.{_⊎_, inl, inr}
+-- The replies of equating as numbers.
+use mathlib.Core.Path.{_≡_, refl, sym, subst}
+use mathlib.Core.Logic.{inl, inr}
 use mathlib.Core.List.{List}
-use Prim.Native.Nat.{ℕ, _+_, _*_, _^_, _≤_, _<_}
+use Prim.Native.Nat.{ℕ, zero, suc}
 use native.Mathlib.Omega.{arith}
 use native.Mathlib.Decide.{decLt}
 use lib.ListN.{length}
 use Rattle.model.specs.Case.{File}
 use Rattle.model.specs.Format.{Reading, readFile}
-use Rattle.model.proofs.Accepted.{accepted-file}
-use Rattle.model.proofs.Places.{refused-place}
-use Rattle.model.proofs.Read.{clash}
 use Rattle.equating.specs.declared.Equated.{Equated}
-use Rattle.equating.specs.declared.Equated.the-variants as equated
-use Rattle.equating.specs.Promise.{EquatePromise, Asked, Answered}
+use Rattle.equating.specs.declared.Equated.the-variants.{Refused, No, Listed}
+use Rattle.equating.specs.Promise.{EquatePromise, Asked}
 use Rattle.desk.specs.Numbers.{equateNumber}
+use Rattle.desk.proofs.Told.{Told, refusal, small, number, Fits, tells, unread-fits, few, cells-fit}
 
--- What a reply of equating is bounded by: a refusal has a number from 1 and a small place, a list is small.
-abbrev pub EquateSmall : Equated → Type 0
-EquateSmall (equated.Refused number place) = (1 ≤ number) × (place ≤ 899)
-EquateSmall equated.No = Unit
-EquateSmall (equated.Listed n) = n ≤ 128
+abbrev pub told : Equated → Told
+told (Refused n p) = refusal n p
+told No = small 0
+told (Listed n) = small (suc n)
+
+-- The reply that is told so.
+abbrev replyOf : Told → Equated
+replyOf (refusal n p) = Refused n p
+replyOf (small zero) = No
+replyOf (small (suc n)) = Listed n
+
+back : (r : Equated) → replyOf (told r) ≡ r
+back (Refused n p) = refl
+back No = refl
+back (Listed n) = refl
+
+told-number : (r : Equated) → equateNumber r ≡ number (told r)
+told-number (Refused n p) = refl
+told-number No = refl
+told-number (Listed n) = omega arith
+
+-- A number that fits tells its reply.
+pub equate-tells : (r r′ : Equated) → Fits (told r) → Fits (told r′) → equateNumber r ≡ equateNumber r′ → r ≡ r′
+equate-tells = tells told replyOf back equateNumber told-number
 
 module _ (file : List ℕ) (a b : ℕ) (before : List ℕ) (reply : Equated) (after : List ℕ) (p : EquatePromise file a b before reply after) where
-  unread : (number place : ℕ) → readFile file ≡ Reading.refused number place → EquateSmall reply
-  unread number place e = (let (x, y, z) = refused-place file number place e in subst EquateSmall (sym (p .unread number place e .0)) (x, z))
+  fits : {r : Equated} → reply ≡ r → Fits (told r) → Fits (told reply)
+  fits e h = subst (λ r. Fits (told r)) (sym e) h
 
   module _ (f : File) (e : readFile file ≡ Reading.accepted f) where
-    few : length (f .cells) ≤ 128
-    few = accepted-file file f e .fewCells
-
-    sized : (number : ℕ) → 1 ≤ number → reply ≡ equated.Refused number (length (f .cells)) → EquateSmall reply
-    sized number h i = subst EquateSmall (sym i) (h, let k = few in omega arith)
-
-    asked : Asked file a b f → EquateSmall reply
+    asked : Asked file a b f → Fits (told reply)
     asked q = elim (decLt (length before) (length (f .cells))) [
-      | yes h ↦ sized 9 (omega arith) (p .short f q h .0)
-      | no h ↦ elim (p .replied f (record { asked = q; room = omega arith })) [ inl i ↦ subst EquateSmall (sym i) tt | inr i ↦ subst EquateSmall (sym i) few ]
+      | yes h ↦ fits (p .short f q h .0) (cells-fit file f e 9 (omega arith))
+      | no h ↦ elim (p .replied f (record { asked = q; room = omega arith })) [ inl i ↦ fits i (omega arith) | inr i ↦ (let k = few file f e in fits i (omega arith)) ]
     ]
 
-    read : EquateSmall reply
+    read : Fits (told reply)
     read = elim (decLt a (length (f .cells))) [
-      | no h ↦ sized 5 (omega arith) (p .outside f e (inl (omega arith)) .0)
+      | no h ↦ fits (p .outside f e (inl (omega arith)) .0) (cells-fit file f e 5 (omega arith))
       | yes h ↦ elim (decLt b (length (f .cells))) [
-        | no h′ ↦ sized 5 (omega arith) (p .outside f e (inr (omega arith)) .0)
-        | yes h′ ↦ asked (record { read = e; first = h; second = h′ })
+        | no g ↦ fits (p .outside f e (inr (omega arith)) .0) (cells-fit file f e 5 (omega arith))
+        | yes g ↦ asked (record { read = e; first = h; second = g })
       ]
     ]
 
-  pub equate-small : EquateSmall reply
-  equate-small = go (readFile file) refl
+  pub equate-fits : Fits (told reply)
+  equate-fits = go (readFile file) refl
     where
-      go : (r : Reading) → readFile file ≡ r → EquateSmall reply
-      go (Reading.refused number place) e = unread number place e
+      go : (x : Reading) → readFile file ≡ x → Fits (told reply)
+      go (Reading.refused n q) e = fits (p .unread n q e .0) (unread-fits file n q e)
       go (Reading.accepted f) e = read f e
-
--- A number tells its reply.
-pub equate-number-one : (r r′ : Equated) → EquateSmall r → EquateSmall r′ → equateNumber r ≡ equateNumber r′ → r ≡ r′
-equate-number-one (equated.Refused n p) (equated.Refused n′ p′) (h, s) (h′, s′) e = (let i : n ≡ n′ = omega arith in let j : p ≡ p′ = omega arith in cc)
-equate-number-one (equated.Refused n p) equated.No (h, s) s′ e = absurd (omega arith)
-equate-number-one (equated.Refused n p) (equated.Listed k) (h, s) s′ e = absurd (omega arith)
-equate-number-one equated.No (equated.Refused n p) s (h, s′) e = absurd (omega arith)
-equate-number-one equated.No equated.No s s′ e = refl
-equate-number-one equated.No (equated.Listed k) s s′ e = absurd (omega arith)
-equate-number-one (equated.Listed k) (equated.Refused n p) s (h, s′) e = absurd (omega arith)
-equate-number-one (equated.Listed k) equated.No s s′ e = absurd (omega arith)
-equate-number-one (equated.Listed k) (equated.Listed k′) s s′ e = (let i : k ≡ k′ = omega arith in ap equated.Listed i)

@@ -1,53 +1,60 @@
--- The replies of reducing as numbers: each fits, and tells its reply.
-use mathlib.Core.Path.{_≡_, refl, sym, ap, subst}
+-- The replies of reducing as numbers.
+use mathlib.Core.Path.{_≡_, refl, sym, subst}
 use mathlib.Core.List.{List}
 use mathlib.Core.Option.{Option, some, none}
-use Prim.Native.Nat.{ℕ, _≤_, _<_}
+use Prim.Native.Nat.{ℕ, zero, suc, _≤_}
 use native.Mathlib.Omega.{arith}
 use native.Mathlib.Decide.{decLt}
 use lib.ListN.{length}
 use Rattle.model.specs.Case.{File}
 use Rattle.model.specs.Format.{Reading, readFile, firstVariable}
-use Rattle.model.proofs.Accepted.{accepted-file}
-use Rattle.model.proofs.Places.{refused-place}
-use Rattle.model.proofs.Variables.{variable-first}
 use Rattle.model.specs.Replies.{HeardOf}
 use Rattle.theory.proofs.Reduced.{reduced-fits}
 use Rattle.reducing.specs.declared.Reduced.{Reduced}
-use Rattle.reducing.specs.declared.Reduced.the-variants as reduced
+use Rattle.reducing.specs.declared.Reduced.the-variants.{Refused, Reduced as Written}
 use Rattle.reducing.specs.Promise.{ReducePromise}
 use Rattle.desk.specs.Numbers.{reduceNumber}
+use Rattle.desk.proofs.Told.{Told, refusal, small, number, Fits, tells, unread-fits, variable-fits}
 
--- What a reply of reducing is bounded by.
-abbrev pub ReduceSmall : Reduced → Type 0
-ReduceSmall (reduced.Refused number place) = (1 ≤ number) × (place ≤ 899)
-ReduceSmall (reduced.Reduced n) = n ≤ 898
+abbrev pub told : Reduced → Told
+told (Refused n p) = refusal n p
+told (Written n) = small (suc n)
 
-module _ (file : List ℕ) (before : List ℕ) (reply : Reduced) (after : List ℕ) (p : ReducePromise file before reply after) where
-  module _ (f : File) (e : readFile file ≡ Reading.accepted f) where
-    few : length (f .cells) ≤ 128
-    few = accepted-file file f e .fewCells
+-- The reply that is told so.
+abbrev replyOf : Told → Reduced
+replyOf (refusal n p) = Refused n p
+replyOf (small zero) = Refused 0 0
+replyOf (small (suc n)) = Written n
 
-    read : (v : Option ℕ) → firstVariable (f .cells) ≡ v → ReduceSmall reply
-    read (some at) i = (let (c, j, h, g) = variable-first (f .cells) at i in let k = few in subst ReduceSmall (sym (p .variable f at e i .0)) (omega arith, omega arith))
-    read none i =
-        let (bytes, t, k, same) = p .exists f e i in
-        let l : length bytes ≤ 898 = subst (λ s. length s ≤ 898) (t .3) (reduced-fits (HeardOf f) (t .1) (t .2) (record { events = t .4; reduces = t .5; few = k })) in
-        elim (decLt (length before) (length bytes)) [
-          | yes h ↦ subst ReduceSmall (sym (p .short f bytes e t h .0)) (omega arith, omega arith)
-          | no h ↦ subst ReduceSmall (sym (p .reduced f bytes e t (omega arith) .0)) l
-        ]
+back : (r : Reduced) → replyOf (told r) ≡ r
+back (Refused n p) = refl
+back (Written n) = refl
 
-  pub reduce-small : ReduceSmall reply
-  reduce-small = go (readFile file) refl
+told-number : (r : Reduced) → reduceNumber r ≡ number (told r)
+told-number (Refused n p) = refl
+told-number (Written n) = omega arith
+
+-- A number that fits tells its reply.
+pub reduce-tells : (r r′ : Reduced) → Fits (told r) → Fits (told r′) → reduceNumber r ≡ reduceNumber r′ → r ≡ r′
+reduce-tells = tells told replyOf back reduceNumber told-number
+
+module _ (file before : List ℕ) (reply : Reduced) (after : List ℕ) (p : ReducePromise file before reply after) where
+  fits : {r : Reduced} → reply ≡ r → Fits (told r) → Fits (told reply)
+  fits e h = subst (λ r. Fits (told r)) (sym e) h
+
+  read : (f : File) → readFile file ≡ Reading.accepted f → (v : Option ℕ) → firstVariable (f .cells) ≡ v → Fits (told reply)
+  read f e (some at) i = fits (p .variable f at e i .0) (variable-fits file f e at i)
+  read f e none i =
+      let (bytes, t, k, same) = p .exists f e i in
+      let l : length bytes ≤ 898 = subst (λ s. length s ≤ 898) (t .3) (reduced-fits (HeardOf f) (t .1) (t .2) (record { events = t .4; reduces = t .5; few = k })) in
+      elim (decLt (length before) (length bytes)) [
+        | yes h ↦ fits (p .short f bytes e t h .0) (omega arith, omega arith)
+        | no h ↦ fits (p .reduced f bytes e t (omega arith) .0) (omega arith)
+      ]
+
+  pub reduce-fits : Fits (told reply)
+  reduce-fits = go (readFile file) refl
     where
-      go : (r : Reading) → readFile file ≡ r → ReduceSmall reply
-      go (Reading.refused number place) e = (let (x, y, z) = refused-place file number place e in subst ReduceSmall (sym (p .refused number place e .0)) (x, z))
+      go : (x : Reading) → readFile file ≡ x → Fits (told reply)
+      go (Reading.refused n q) e = fits (p .refused n q e .0) (unread-fits file n q e)
       go (Reading.accepted f) e = read f e (firstVariable (f .cells)) refl
-
--- A number tells its reply.
-pub reduce-number-one : (r r′ : Reduced) → ReduceSmall r → ReduceSmall r′ → reduceNumber r ≡ reduceNumber r′ → r ≡ r′
-reduce-number-one (reduced.Refused n p) (reduced.Refused n′ p′) (h, s) (h′, s′) e = (let i : n ≡ n′ = omega arith in let j : p ≡ p′ = omega arith in cc)
-reduce-number-one (reduced.Refused n p) (reduced.Reduced k) (h, s) s′ e = absurd (omega arith)
-reduce-number-one (reduced.Reduced k) (reduced.Refused n p) s (h, s′) e = absurd (omega arith)
-reduce-number-one (reduced.Reduced k) (reduced.Reduced k′) s s′ e = (let i : k ≡ k′ = omega arith in ap reduced.Reduced i)

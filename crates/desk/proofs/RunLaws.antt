@@ -1,50 +1,57 @@
--- The replies of a run as numbers: each fits, and tells its reply.
-use mathlib.Core.Path.{_≡_, refl, sym, ap, subst}
+-- The replies of a run as numbers.
+use mathlib.Core.Path.{_≡_, refl, sym, subst}
 use mathlib.Core.Logic.{inl, inr}
 use mathlib.Core.List.{List}
-use Prim.Native.Nat.{ℕ, _≤_}
+use Prim.Native.Nat.{ℕ, zero, suc}
 use native.Mathlib.Omega.{arith}
 use native.Mathlib.Decide.{decLt}
 use lib.ListN.{length}
 use Rattle.model.specs.Case.{File}
 use Rattle.model.specs.Format.{Reading, readFile}
-use Rattle.model.proofs.Accepted.{accepted-file}
-use Rattle.model.proofs.Places.{refused-place}
 use Rattle.running.specs.declared.Solved.{Solved}
-use Rattle.running.specs.declared.Solved.the-variants as solved
-use Rattle.running.specs.Promise.{RunPromise, Answered}
+use Rattle.running.specs.declared.Solved.the-variants.{Refused, No, Yes}
+use Rattle.running.specs.Promise.{RunPromise}
 use Rattle.desk.specs.Numbers.{runNumber}
+use Rattle.desk.proofs.Told.{Told, refusal, small, number, Fits, tells, unread-fits, few, cells-fit}
 
--- What a reply of a run is bounded by.
-abbrev pub RunSmall : Solved → Type 0
-RunSmall (solved.Refused number place) = (1 ≤ number) × (place ≤ 899)
-RunSmall solved.No = Unit
-RunSmall (solved.Yes n) = n ≤ 128
+abbrev pub told : Solved → Told
+told (Refused n p) = refusal n p
+told No = small 0
+told (Yes n) = small (suc n)
+
+-- The reply that is told so.
+abbrev replyOf : Told → Solved
+replyOf (refusal n p) = Refused n p
+replyOf (small zero) = No
+replyOf (small (suc n)) = Yes n
+
+back : (r : Solved) → replyOf (told r) ≡ r
+back (Refused n p) = refl
+back No = refl
+back (Yes n) = refl
+
+told-number : (r : Solved) → runNumber r ≡ number (told r)
+told-number (Refused n p) = refl
+told-number No = refl
+told-number (Yes n) = omega arith
+
+-- A number that fits tells its reply.
+pub run-tells : (r r′ : Solved) → Fits (told r) → Fits (told r′) → runNumber r ≡ runNumber r′ → r ≡ r′
+run-tells = tells told replyOf back runNumber told-number
 
 module _ (file before : List ℕ) (reply : Solved) (after : List ℕ) (p : RunPromise file before reply after) where
-  read : (f : File) → readFile file ≡ Reading.accepted f → RunSmall reply
-  read f e =
-      let k = accepted-file file f e .fewCells in
-      elim (decLt (length before) (length (f .cells))) [
-        | yes h ↦ subst RunSmall (sym (p .short f e h .0)) (omega arith, omega arith)
-        | no h ↦ elim (p .replied f (record { read = e; room = omega arith })) [ inl i ↦ subst RunSmall (sym i) tt | inr i ↦ subst RunSmall (sym i) k ]
-      ]
+  fits : {r : Solved} → reply ≡ r → Fits (told r) → Fits (told reply)
+  fits e h = subst (λ r. Fits (told r)) (sym e) h
 
-  pub run-small : RunSmall reply
-  run-small = go (readFile file) refl
+  read : (f : File) → readFile file ≡ Reading.accepted f → Fits (told reply)
+  read f e = elim (decLt (length before) (length (f .cells))) [
+    | yes h ↦ fits (p .short f e h .0) (cells-fit file f e 9 (omega arith))
+    | no h ↦ elim (p .replied f (record { read = e; room = omega arith })) [ inl i ↦ fits i (omega arith) | inr i ↦ (let k = few file f e in fits i (omega arith)) ]
+  ]
+
+  pub run-fits : Fits (told reply)
+  run-fits = go (readFile file) refl
     where
-      go : (r : Reading) → readFile file ≡ r → RunSmall reply
-      go (Reading.refused number place) e = (let (x, y, z) = refused-place file number place e in subst RunSmall (sym (p .unread number place e .0)) (x, z))
+      go : (x : Reading) → readFile file ≡ x → Fits (told reply)
+      go (Reading.refused n q) e = fits (p .unread n q e .0) (unread-fits file n q e)
       go (Reading.accepted f) e = read f e
-
--- A number tells its reply.
-pub run-number-one : (r r′ : Solved) → RunSmall r → RunSmall r′ → runNumber r ≡ runNumber r′ → r ≡ r′
-run-number-one (solved.Refused n p) (solved.Refused n′ p′) (h, s) (h′, s′) e = (let i : n ≡ n′ = omega arith in let j : p ≡ p′ = omega arith in cc)
-run-number-one (solved.Refused n p) solved.No (h, s) s′ e = absurd (omega arith)
-run-number-one (solved.Refused n p) (solved.Yes k) (h, s) s′ e = absurd (omega arith)
-run-number-one solved.No (solved.Refused n p) s (h, s′) e = absurd (omega arith)
-run-number-one solved.No solved.No s s′ e = refl
-run-number-one solved.No (solved.Yes k) s s′ e = absurd (omega arith)
-run-number-one (solved.Yes k) (solved.Refused n p) s (h, s′) e = absurd (omega arith)
-run-number-one (solved.Yes k) solved.No s s′ e = absurd (omega arith)
-run-number-one (solved.Yes k) (solved.Yes k′) s s′ e = (let i : k ≡ k′ = omega arith in ap solved.Yes i)

@@ -12,42 +12,36 @@ use Rattle.model.specs.Case.{VA, Table, message}
 use Rattle.model.specs.Values.{Equates}
 use Rattle.model.specs.Stored.{tableAt}
 use Rattle.model.specs.Replies.{laid}
-use Rattle.model.proofs.Read.{clash}
+use Rattle.model.proofs.Read.{clash, message-self}
+use Rattle.model.proofs.Stored.{var-kind, kind-var}
 use Rattle.theory.specs.Cells.{Rows, classAt}
 use Rattle.theory.proofs.Answers.{equate-yes}
+use Rattle.theory.proofs.Rows.{rows-var}
 use Rattle.classes.specs.declared.Settled.{Settled}
 use Rattle.classes.specs.Settle.{Unifies}
 use Rattle.classes.specs.Twins.{Start}
-use Rattle.classes.proofs.CellLaws.{var-kind, kind-var}
-use Rattle.classes.proofs.RowLaws.{class-low, rows-var}
+use Rattle.classes.proofs.RowLaws.{class-low}
 use Rattle.classes.proofs.SolvedLaws.{solved-grounds}
 use Rattle.equating.specs.declared.Equated.the-variants.{Refused, No, Listed}
 use Rattle.equating.specs.Cells.{listOf, Never, ListEquates, CellsEquated}
 use Rattle.equating.proofs.ListLaws.{length-listOf, listOf-at, listOf-past, entry-var, entry-own}
-use Rattle.equating.proofs.EndsLaws.{message-self, equates-same}
+use Rattle.equating.proofs.EndsLaws.{equates-same}
 
 -- ---- the replies before the work
 
 module _ (n : ℕ) (T : Table) (a b : ℕ) (before : List ℕ) where
-  pub reply-outside : (n ≤ a) ⊎ (n ≤ b) → CellsEquated n T a b before (Refused 5 n) before
-  reply-outside (inl o) = record {
-    outside = λ _. (refl, refl);
-    short = λ h k. absurd (omega arith);
-    replied = λ h k. absurd (omega arith);
-    no = λ h k. absurd (omega arith);
-    listed = λ h k. absurd (omega arith);
-  }
-  reply-outside (inr o) = record {
-    outside = λ _. (refl, refl);
-    short = λ h k. absurd (omega arith);
-    replied = λ h k. absurd (omega arith);
-    no = λ h k. absurd (omega arith);
-    listed = λ h k. absurd (omega arith);
-  }
-
   not-outside : {A : Type 0} → a < n → b < n → (n ≤ a) ⊎ (n ≤ b) → A
   not-outside h k (inl o) = absurd (omega arith)
   not-outside h k (inr o) = absurd (omega arith)
+
+  pub reply-outside : (n ≤ a) ⊎ (n ≤ b) → CellsEquated n T a b before (Refused 5 n) before
+  reply-outside o = record {
+    outside = λ _. (refl, refl);
+    short = λ h k. not-outside h k o;
+    replied = λ h k. not-outside h k o;
+    no = λ h k. not-outside h k o;
+    listed = λ h k. not-outside h k o;
+  }
 
   pub reply-short : a < n → b < n → length before < n → CellsEquated n T a b before (Refused 9 n) before
   reply-short h k s = record {
@@ -88,7 +82,7 @@ module _ (n : ℕ) (kinds firsts seconds : List ℕ) (w : Rows n kinds firsts se
   -- The entry of a variable is the cell that stands for its class; any other cell has its own number.
   list-var : (rep : List ℕ) (v : ℕ) → T v ≡ VA → classAt rep v ≡ getD (listOf kinds rep n) v v
   list-var rep v t =
-      let h = rows-var n kinds firsts seconds w v t in
+      let h = rows-var w v t in
       sym (listOf-at kinds rep n v v h ∙ (entry-var kinds rep v (var-kind (getD kinds v 0) (getD firsts v 0) (getD seconds v 0) t) ∙ class-low rep v (omega (arith, w .few))))
 
   list-own : (rep : List ℕ) (c : ℕ) → (T c ≡ VA → ⊥) → getD (listOf kinds rep n) c c ≡ c

@@ -80,16 +80,6 @@ equates-values T a b L low w =
     let one = reads-one T m m (message T m) low reads (message-reads T m low) in
     (m, sym (one a) ∙ (w .exact m reads .1 (followed-holds T L (w .ends)) ∙ one b))
 
--- What values make the cells show is a reading of its own.
-pub message-self : (T : Table) (ρ : ℕ → Message) → Lower T → Reads T (message T ρ) (message T ρ)
-message-self T ρ low c = self (T c) (message-reads T ρ low c)
-  where
-    self : (k : Cell) → message T ρ c ≡ look (ρ c) (message T ρ) k → message T ρ c ≡ look (message T ρ c) (message T ρ) k
-    self (AT n) e = e
-    self VA e = refl
-    self (ONE g a) e = e
-    self (TWO h l r) e = e
-
 -- A list is read at the variables alone.
 module _ (T : Table) (L L′ : ℕ → ℕ) (same : (v : ℕ) → T v ≡ VA → L v ≡ L′ v) where
   ends-same : {c : ℕ} → Ends T L c → Ends T L′ c

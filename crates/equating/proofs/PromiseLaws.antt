@@ -1,56 +1,38 @@
 -- From what is read of the bytes and the reply on the stored table to the promise; and that the promise settles the reply.
-use mathlib.Core.Path.{_≡_, refl, sym, _∙_, ap, subst, fun-ext}
+use mathlib.Core.Path.{_≡_, refl, sym, _∙_, ap, subst}
 use mathlib.Core.List.{List}
 use mathlib.Core.Logic.{_⊎_, inl, inr}
 use Prim.Native.Nat.{ℕ}
 use native.Mathlib.Decide.{decLt}
 use native.Mathlib.Omega.{arith}
 use lib.ListN.{length, take, drop}
-use lib.Seq.{take-at, drop-at}
 use Rattle.model.specs.Message.{Message}
 use Rattle.model.specs.Case.{File, tableOf, message}
 use Rattle.model.specs.Format.{readFile, Reading, refused, accepted}
 use Rattle.model.specs.Stored.{tableAt}
-use Rattle.model.specs.Replies.{EquatedBy, NeverEqual, laid}
+use Rattle.model.specs.Replies.{EquatedBy, NeverEqual, SameButList, same, lists}
 use Rattle.model.proofs.Read.{clash}
-use Rattle.model.proofs.Rows.{table-rows}
-use Rattle.model.proofs.Accepted.{Bytes, accepted-file}
-use Rattle.theory.specs.Cells.{Rows}
-use Rattle.theory.proofs.Rows.{accepted-rows}
+use Rattle.model.proofs.Accepted.{accepted-file}
+use Rattle.model.proofs.Stored.{laid-front, laid-beyond}
 use Rattle.casefile.specs.declared.Case.{Case}
-use Rattle.casefile.specs.declared.cells.Table.{Table}
-use Rattle.casefile.specs.declared.events.Verdict.the-variants as verdict
-use Rattle.casefile.specs.Cells.{stored}
-use Rattle.casefile.specs.Case.{caseOf}
+use Rattle.casefile.proofs.CaseFile.{CaseFile, case-count, case-table}
 use Rattle.equating.specs.declared.Equated.{Equated}
 use Rattle.equating.specs.declared.Equated.the-variants.{Refused, No, Listed}
 use Rattle.equating.specs.Cells.{CellsEquated}
-use Rattle.equating.specs.Promise.{Asked, Answered, EquatePromise, SameButList, same, lists}
+use Rattle.equating.specs.Promise.{Asked, Answered, EquatePromise}
 use Rattle.equating.proofs.EndsLaws.{equates-values}
 
--- ---- what was read
+-- ---- the reply on the rows that were read, said of the file's cells
 
-pub case-refused : (x : Reading) (r : Case) → r ≡ caseOf x → (number place : ℕ) → r .verdict ≡ verdict.Refused number place → x ≡ refused number place
-case-refused (refused n p) r e number place v = let z = ap (λ (u : Case). u .verdict) e in cc
-case-refused (accepted f) r e number place v = let z = ap (λ (u : Case). u .verdict) e in clash (cc)
-
-pub case-accepted : (x : Reading) (r : Case) → r ≡ caseOf x → r .verdict ≡ verdict.Accepted → (f : File) × (x ≡ accepted f) × (r .table ≡ stored (f .cells))
-case-accepted (refused n p) r e v = let z = ap (λ (u : Case). u .verdict) e in clash (cc)
-case-accepted (accepted f) r e v = (f, refl, ap (λ (u : Case). u .table) e)
-
--- The rows of the table that was read,
-pub table-kept : (file : List ℕ) (f : File) (t : Table) → Bytes file → readFile file ≡ accepted f → t ≡ stored (f .cells) → Rows (t .cells) (t .kind) (t .first) (t .second)
-table-kept file f t bytes read e = subst (λ (u : Table). Rows (u .cells) (u .kind) (u .first) (u .second)) (sym e) (accepted-rows file f bytes read)
-
--- and the reply on them, said of the file's cells.
 module _ (a b : ℕ) (before : List ℕ) (reply : Equated) (after : List ℕ) where
   abbrev pub OfFile : File → Type 0
   OfFile f = CellsEquated (length (f .cells)) (tableOf (f .cells)) a b before reply after
 
-  pub table-file : (f : File) (t : Table) → t ≡ stored (f .cells) → CellsEquated (t .cells) (tableAt (t .kind) (t .first) (t .second)) a b before reply after → OfFile f
-  table-file f t e w =
-      subst (λ T. CellsEquated (length (f .cells)) T a b before reply after) (fun-ext (table-rows (f .cells)))
-      (subst (λ (u : Table). CellsEquated (u .cells) (tableAt (u .kind) (u .first) (u .second)) a b before reply after) e w)
+  pub case-equated : {file : List ℕ} {r : Case} (w : CaseFile file r) →
+      CellsEquated (r .table .cells) (tableAt (r .table .kind) (r .table .first) (r .table .second)) a b before reply after → OfFile (w .f)
+  case-equated {file} {r} w h =
+      subst (λ n. CellsEquated n (tableOf (w .f .cells)) a b before reply after) (case-count w)
+      (subst (λ T. CellsEquated (r .table .cells) T a b before reply after) (case-table w) h)
 
 -- ---- the promise
 
@@ -92,12 +74,6 @@ never-equated file f a b list read never w = let (ρ, e) = equated-values file f
 
 -- ---- the list as it stands in the buffer
 
-laid-front : (list before : List ℕ) (n : ℕ) → length list ≡ n → take n (laid list before) ≡ list
-laid-front list before n e = take-at list (drop (length list) before) n e
-
-laid-beyond : (list before : List ℕ) (n : ℕ) → length list ≡ n → drop n (laid list before) ≡ drop n before
-laid-beyond list before n e = drop-at list (drop (length list) before) n e ∙ ap (λ (k : ℕ). drop k before) e
-
 module _ (file : List ℕ) (a b : ℕ) (before : List ℕ) (reply : Equated) (after : List ℕ) (p : EquatePromise file a b before reply after) (f : File) (q : Answered file a b before f) where
   pub listed-front : reply ≡ Listed (length (f .cells)) → EquatedBy f a b (take (length (f .cells)) after) × (drop (length (f .cells)) after ≡ drop (length (f .cells)) before)
   listed-front e =
@@ -117,7 +93,7 @@ module _ (file : List ℕ) (a b : ℕ) (before : List ℕ) (reply : Equated) (af
 module _ (file : List ℕ) (a b : ℕ) (before : List ℕ) (r r′ : Equated) (after after′ : List ℕ)
     (p : EquatePromise file a b before r after) (p′ : EquatePromise file a b before r′ after′) where
   abbrev Alike : Type 0
-  Alike = (r ≡ r′) × SameButList file a b before after after′
+  Alike = (r ≡ r′) × SameButList (λ f. EquatedBy f a b) file before after after′
 
   -- Two refusals are one.
   refusals : {x : Equated} → (r ≡ x) × (after ≡ before) → (r′ ≡ x) × (after′ ≡ before) → Alike

@@ -10,14 +10,13 @@ use Rattle.model.specs.Message.{Message, atom}
 use Rattle.model.specs.Case.{VA, AT, PR, File, tableOf, shown, message, Lower}
 use Rattle.model.specs.Format.{readFile, accepted}
 use Rattle.model.specs.Replies.{EquatedBy, NeverEqual, laid}
-use Rattle.model.proofs.Read.{clash}
+use Rattle.model.proofs.Read.{clash, message-self}
 use Rattle.model.proofs.Accepted.{accepted-file}
 use Rattle.model.proofs.Claims.{R, bytesOf}
 use Rattle.model.proofs.Starred.{read-as, starred-hold}
 use Rattle.equating.specs.declared.Equated.{Equated}
 use Rattle.equating.specs.declared.Equated.the-variants.{No, Listed}
 use Rattle.equating.specs.Promise.{Answered, EquatePromise}
-use Rattle.equating.proofs.EndsLaws.{message-self}
 use Rattle.equating.proofs.PromiseLaws.{no-of-never, never-equated}
 
 -- What R is read as.

@@ -8,17 +8,17 @@ use Rattle.model.specs.Message.{Message}
 use Rattle.model.specs.Case.{VA, File, tableOf, message}
 use Rattle.model.specs.Values.{Ends}
 use Rattle.model.specs.Format.{readFile, accepted}
-use Rattle.model.specs.Replies.{EquatedBy, NeverEqual}
+use Rattle.model.specs.Replies.{EquatedBy, NeverEqual, SameButList}
 use Rattle.model.proofs.Accepted.{accepted-file}
+use Rattle.model.proofs.Read.{message-self}
 use Rattle.equating.specs.declared.Equated.{Equated}
 use Rattle.equating.specs.declared.Equated.the-variants.{No, Listed}
-use Rattle.equating.specs.Promise.{Answered, EquatePromise, SameButList}
-use Rattle.equating.proofs.EndsLaws.{message-self}
+use Rattle.equating.specs.Promise.{Answered, EquatePromise}
 use Rattle.equating.proofs.PromiseLaws.{equated-values, never-equated, listed-front, no-of-never, settled}
 
 -- Two replies, with their buffers, that meet the promise for one input are equal but for which list is shown.
 pub equate-settled : (file : List ℕ) (a b : ℕ) (before : List ℕ) (r r′ : Equated) (after after′ : List ℕ) →
-    EquatePromise file a b before r after → EquatePromise file a b before r′ after′ → (r ≡ r′) × SameButList file a b before after after′
+    EquatePromise file a b before r after → EquatePromise file a b before r′ after′ → (r ≡ r′) × SameButList (λ f. EquatedBy f a b) file before after after′
 equate-settled = settled
 
 -- The list read as equalities holds under the values ρ.

@@ -1,11 +1,10 @@
 -- What equating promises (document 01, "Equating" and "Refusal numbers and their order"), for any bytes and any two numbers.
--- Asked: the cells asked about are cells of the file; Answered: and the buffer has room; EquatePromise: the contract, a field for each sentence;
--- SameButList: two buffers that differ at most in which list is shown. Assumes nothing.
+-- Asked: the cells asked about are cells of the file; Answered: and the buffer has room; EquatePromise: the contract, a field for each sentence. Assumes nothing.
 use mathlib.Core.Path.{_≡_}
 use mathlib.Core.List.{List}
 use mathlib.Core.Logic.{_⊎_}
 use Prim.Native.Nat.{ℕ, _≤_, _<_}
-use lib.ListN.{length, drop}
+use lib.ListN.{length}
 use Rattle.model.specs.Case.{File}
 use Rattle.model.specs.Format.{readFile, refused, accepted}
 use Rattle.model.specs.Replies.{EquatedBy, NeverEqual, laid}
@@ -39,10 +38,3 @@ pub record EquatePromise (file : List ℕ) (a b : ℕ) (before : List ℕ) (repl
   -- a list: it equates the two cells, stands at the front of the buffer, and no byte beyond it is touched
   pub listed : (f : File) → Answered file a b before f → reply ≡ Listed (length (f .cells)) →
       (list : List ℕ) × EquatedBy f a b list × (after ≡ laid list before)
-
--- Two buffers after the reply are equal; or each has a list that equates the two cells at its front, and the bytes beyond it are equal.
-pub data SameButList (file : List ℕ) (a b : ℕ) (before after after′ : List ℕ) : Type 0 where
-  same : after ≡ after′ → SameButList file a b before after after′
-  lists : (f : File) (list list′ : List ℕ) → readFile file ≡ accepted f → EquatedBy f a b list → EquatedBy f a b list′ →
-      after ≡ laid list before → after′ ≡ laid list′ before → drop (length (f .cells)) after ≡ drop (length (f .cells)) after′ →
-      SameButList file a b before after after′

@@ -4,36 +4,38 @@ use mathlib.Core.Logic.{_⊎_, inl, inr}
 use mathlib.Core.Bool.{Bool, true, false, true≢false}
 use mathlib.Core.List.{List, [], _∷_}
 use mathlib.Core.Option.{some, none}
-use Prim.Native.Nat.{ℕ, zero, suc, _+_, _≤_, _<_}
+use Prim.Native.Nat.{ℕ, suc, _+_, _≤_, _<_}
 use native.Mathlib.Omega.{arith}
 use native.Mathlib.Decide.{decLt}
 use lib.Dec.{eqb}
 use lib.ListN.{length, getD}
-use borrow.Author.Tests.{eqb-true, eqb-false, lt-ltb}
+use borrow.Author.Tests.{eqb-true, eqb-false}
 use Rattle.model.specs.Case.{Cell, MK, LN, Table, Run, Learnt, WellFormed}
-use Rattle.model.specs.Stored.{tableAt, eventAt, runAt}
+use Rattle.model.specs.Stored.{tableAt, runAt}
 use Rattle.model.proofs.Read.{clash}
+use Rattle.model.proofs.Stored.{run-make}
 use Rattle.theory.specs.Cells.{Rows, classAt, On}
-use Rattle.theory.specs.Level.{Kin}
 use Rattle.theory.specs.Hope.{Place, at-arg, at-left, at-right}
 use Rattle.theory.specs.Sweep.{Swept, SweptHope}
 use Rattle.theory.specs.Search.{None}
-use Rattle.theory.proofs.Level.{kin-part, learnt-made}
+use Rattle.theory.proofs.Level.{learnt-made}
 use Rattle.theory.proofs.Hopeless.{right-hope}
+use Rattle.theory.proofs.Rows.{rows-beyond, rows-formed}
 use Rattle.theory.proofs.Sweep.{hope-least}
 use Rattle.classes.specs.Kept.{Solved}
-use Rattle.classes.proofs.RowLaws.{rows-formed}
 use Rattle.classes.proofs.SolvedLaws.{solved-state}
 use Rattle.knowledge.specs.Knowledge.{ClassRow, Marked, Learns}
 use Rattle.knowledge.specs.Sweeps.{leftPart, rightPart, missing, Newly, Shows, Turned, OwnMarks}
-use Rattle.knowledge.proofs.Grow.{on?, noMarks, none-on}
-use Rattle.knowledge.proofs.Closing.{beyond-cell, still-swept}
+use Rattle.theory.proofs.MarkRows.{on?}
+use Rattle.knowledge.proofs.Grow.{noMarks, none-on}
+use Rattle.knowledge.proofs.Closing.{still-swept}
+use Rattle.knowledge.proofs.Start.{starts-none}
 use Rattle.wants.proofs.SetLaws.{make-at}
-use Rattle.wants.proofs.Rowing.{part-below}
 use Rattle.hopeless.specs.Meets.{May, Equal, Equalling}
 use Rattle.hopeless.specs.Leaks.{Leaked}
 use Rattle.hopeless.specs.Hopes.{Hoped, More, Rounded, Dreamt}
-use Rattle.hopeless.proofs.MeetLaws.{kept-row, kin-sym}
+use Rattle.hopeless.proofs.KinLaws.{kin-below}
+use Rattle.knowledge.proofs.ClassRows.{kept-row}
 
 -- ---- counting
 
@@ -112,19 +114,16 @@ module _ {n : ℕ} {K F S rep : List ℕ} (w : Rows n K F S) (row : ClassRow n r
   abbrev T : Table
   T = tableAt K F S
 
-  below : (c d : ℕ) → Kin (T c) (T d) → d < n
-  below c d k = let (x, q) = kin-part k in part-below w d x q
-
   equal-on : (c d : ℕ) → classAt rep c ≡ c → On s d → May T rep c d → On b c
   equal-on c d e o m = elim (on? b c) [
     | inl i ↦ i
-    | inr i ↦ absurd (h .equal c (below d c (kin-sym (m .kin))) (record { stands = e; new = i; cell = d; below = below c d (m .kin); whole = o; may = m }))
+    | inr i ↦ (let (l, g) = kin-below w c d (m .kin) in absurd (h .equal c l (record { stands = e; new = i; cell = d; below = g; whole = o; may = m })))
   ]
 
   leak-on : (c d x x′ : ℕ) → On (h .tight .over) c → On (h .tight .held) (classAt rep x) → Place (T c) (T d) x x′ → On s d → May T rep c d → On s (classAt rep x′)
   leak-on c d x x′ o g q sd m = elim (on? s (classAt rep x′)) [
     | inl i ↦ i
-    | inr i ↦ absurd (h .tight .still c (below d c (kin-sym (m .kin))) o d (below c d (m .kin)) (record {
+    | inr i ↦ absurd (h .tight .still c (kin-below w c d (m .kin) .0) o d (kin-below w c d (m .kin) .1) (record {
       whole = sd;
       may = m;
       part = elim (place-side c d q) [
@@ -137,8 +136,7 @@ module _ {n : ℕ} {K F S rep : List ℕ} (w : Rows n K F S) (row : ClassRow n r
   module _ {b₀ : List ℕ} (own : OwnMarks n rep b₀) (kept : (c : ℕ) → On b₀ c → On b c) where
     -- The rules that add no equality, as of an empty run.
     quiet : Swept T (classAt rep) (λ q. none) 0 (On s) (On b)
-    quiet = still-swept T row (beyond-cell w) own s b kept (h .still) (λ q. none) 0 noMarks (λ c o. absurd (none-on c o))
-        (record { low = λ c (q, lt, e). absurd (omega arith); high = λ c o. absurd (none-on c o) })
+    quiet = still-swept T row (rows-beyond w) own s b kept (h .still) (λ q. none) 0 noMarks (λ c o. absurd (none-on c o)) (starts-none T row (λ q. none))
 
     pub hoped-swept : (count : ℕ) → ((c : ℕ) → Learnt (runAt count kinds cells) p c → On s (classAt rep c)) →
         SweptHope T (classAt rep) (runAt count kinds cells) p (May T rep) (On s) (On b) (On (h .tight .held)) (On (h .tight .over))
@@ -168,7 +166,7 @@ module _ {n : ℕ} {K F S rep : List ℕ} (w : Rows n K F S) (ev : Run) (x : Sol
   pub swept-none : (p t : ℕ) (Q B H W : ℕ → Type 0) → SweptHope R (classAt rep) ev p (May R rep) Q B H W → ev p ≡ some (MK t) → (B (classAt rep t) → ⊥) → None R ev (classAt rep)
   swept-none p t Q B H W sw at lacks m mr right ms =
       let st = solved-state n R rep x in
-      let ok = rows-formed n K F S w in
+      let ok = rows-formed w in
       lacks (hope-least R (classAt rep) ev p (st .idem) (May R rep) Q B H W sw
       (right-hope R (classAt rep) ev p (λ c d. May R rep (classAt rep c) (classAt rep d)) ok m mr ms
       (λ c d n e i. cc (st .idem c, st .idem d, st .names (classAt rep c) (classAt rep d) n e i))
@@ -178,19 +176,6 @@ module _ {n : ℕ} {K F S rep : List ℕ} (w : Rows n K F S) (ev : Run) (x : Sol
         meet = λ never. never m mr ms (sym (ms c) ∙ (e ∙ ms d));
       })
       (right .makes) (learnt-made R (classAt rep) (st .closed) (ok .lower) wf) t at))
-
--- ---- events
-
-event-learn : (k c : ℕ) → (k ≡ 0 → ⊥) → eventAt k c ≡ LN c
-event-learn zero c n = absurd (n refl)
-event-learn (suc k) c n = refl
-
-module _ (count : ℕ) (kinds cells : List ℕ) (p : ℕ) where
-  pub run-make : p < count → getD kinds p 0 ≡ 0 → runAt count kinds cells p ≡ some (MK (getD cells p 0))
-  run-make h e = rw (lt-ltb p count h, e)
-
-  pub run-learn : p < count → (getD kinds p 0 ≡ 0 → ⊥) → runAt count kinds cells p ≡ some (LN (getD cells p 0))
-  run-learn h n = rw (lt-ltb p count h, event-learn (getD kinds p 0) (getD cells p 0) n)
 
 -- ---- what is learnt
 

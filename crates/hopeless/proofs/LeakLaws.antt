@@ -8,39 +8,36 @@ use native.Mathlib.Omega.{arith}
 use lib.ListN.{length, getD, set, replicate}
 use borrow.Author.Count.{below-more}
 use Rattle.model.specs.Case.{Table}
-use Rattle.model.specs.Stored.{tableAt}
 use Rattle.model.proofs.Read.{clash}
-use Rattle.theory.specs.Cells.{Rows, classAt, On}
+use Rattle.theory.specs.Cells.{classAt, On}
 use Rattle.knowledge.specs.Knowledge.{ClassRow, Marked}
 use Rattle.knowledge.specs.Sweeps.{leftPart, rightPart}
-use Rattle.knowledge.proofs.ByKind.{free-kind}
 use Rattle.knowledge.proofs.Grow.{grown-none, grown-mark}
 use Rattle.wants.specs.declared.starts.Pick.{Pick}
 use Rattle.wants.specs.declared.starts.Pick.the-variants as pick
-use Rattle.wants.specs.Starts.{EndsAt, FreeSeen, Due}
-use Rattle.wants.specs.Spread.{Lowered, Raised}
-use Rattle.wants.proofs.Rowing.{var-below}
+use Rattle.wants.specs.Starts.{EndsAt, Due}
+use Rattle.wants.specs.Spread.{Lowered}
+use Rattle.wants.specs.Sets.{HeldRow}
 use Rattle.hopeless.specs.Meets.{May}
-use Rattle.hopeless.specs.Leaks.{Bright, Leaks, LeakTold, LeakingRow, Leaking, HeldRow, OverRow, Leaked}
+use Rattle.hopeless.specs.Leaks.{Bright, Leaks, LeakTold, LeakingRow, Leaking, OverRow, Leaked}
 
 -- ---- two cells
 
-module _ (T : Table) {n : ℕ} {rep : List ℕ} (row : ClassRow n rep) (held seens : List ℕ) (c d : ℕ) where
-  pub leak-never : (On seens d → May T rep c d → ⊥) → LeakTold T rep held seens c d pick.Nothing
-  leak-never none = LeakTold.nothing (λ w. none (w .whole) (w .may))
+pub leak-never : {T : Table} {rep held seens : List ℕ} {c d : ℕ} → (On seens d → May T rep c d → ⊥) → LeakTold T rep held seens c d pick.Nothing
+leak-never none = LeakTold.nothing (λ w. none (w .whole) (w .may))
 
-  module _ (a b a′ b′ : ℕ) (e : EndsAt T rep c a b) (f : EndsAt T rep d a′ b′) where
-    pub leak-left : Bright held seens a a′ → LeakTold T rep held seens c d (pick.Mark a′)
-    leak-left x = LeakTold.leak (f .left-low) (subst (λ z. classAt rep z ≡ z) (sym (f .left)) (row .idem (leftPart (T d) d))) (x .1)
+module _ (T : Table) {n : ℕ} {rep : List ℕ} (row : ClassRow n rep) (held seens : List ℕ) (c d : ℕ) (a b a′ b′ : ℕ) (e : EndsAt T rep c a b) (f : EndsAt T rep d a′ b′) where
+  pub leak-left : Bright held seens a a′ → LeakTold T rep held seens c d (pick.Mark a′)
+  leak-left x = LeakTold.leak (f .left-low) (subst (λ z. classAt rep z ≡ z) (sym (f .left)) (row .idem (leftPart (T d) d))) (x .1)
 
-    pub leak-right : Bright held seens b b′ → LeakTold T rep held seens c d (pick.Mark b′)
-    leak-right x = LeakTold.leak (f .right-low) (subst (λ z. classAt rep z ≡ z) (sym (f .right)) (row .idem (rightPart (T d) d))) (x .1)
+  pub leak-right : Bright held seens b b′ → LeakTold T rep held seens c d (pick.Mark b′)
+  leak-right x = LeakTold.leak (f .right-low) (subst (λ z. classAt rep z ≡ z) (sym (f .right)) (row .idem (rightPart (T d) d))) (x .1)
 
-    pub leak-dark : (Bright held seens a a′ → ⊥) → (Bright held seens b b′ → ⊥) → LeakTold T rep held seens c d pick.Nothing
-    leak-dark x y = LeakTold.nothing (λ w. elim (w .part) [
-      | inl (h, g) ↦ x (subst (On held) (sym (e .left)) h, λ o. g (subst (On seens) (f .left) o))
-      | inr (h, g) ↦ y (subst (On held) (sym (e .right)) h, λ o. g (subst (On seens) (f .right) o))
-    ])
+  pub leak-dark : (Bright held seens a a′ → ⊥) → (Bright held seens b b′ → ⊥) → LeakTold T rep held seens c d pick.Nothing
+  leak-dark x y = LeakTold.nothing (λ w. elim (w .part) [
+    | inl (h, g) ↦ x (subst (On held) (sym (e .left)) h, λ o. g (subst (On seens) (f .left) o))
+    | inr (h, g) ↦ y (subst (On held) (sym (e .right)) h, λ o. g (subst (On seens) (f .right) o))
+  ])
 
 -- ---- the row of a cell
 
@@ -99,18 +96,12 @@ ones zero c h = absurd (omega arith)
 ones (suc n) zero h = refl
 ones (suc n) (suc c) h = ones n c (omega arith)
 
-module _ {n : ℕ} {K F S rep : List ℕ} (w : Rows n K F S) (row : ClassRow n rep) where
-  pub held-row : {seens m r : List ℕ} → FreeSeen K rep seens m n → Raised (tableAt K F S) rep m r → HeldRow (tableAt K F S) rep seens r
-  held-row free up = record {
-    here = λ c e v s. up .wider .kept c (free .free c (var-below w c v) (free-kind (getD K c 0) (getD F c 0) (getD S c 0) v) s);
-    up = up .up;
-  }
-
-  pub over-row : {held kinds cells m r : List ℕ} {p : ℕ} → Due rep (replicate 129 1) kinds cells m p → Lowered (tableAt K F S) rep held 1 m r → OverRow (tableAt K F S) rep held kinds cells p r
-  over-row {cells = cells} due low = record {
-    due = λ q lt e. low .wider .kept (classAt rep (getD cells q 0)) (due .makes q lt e (ones 129 (classAt rep (getD cells q 0)) (omega (arith, row .low (getD cells q 0)))));
-    parts = λ c d e o q h. low .parts c d e o q h;
-  }
+pub over-row : (T : Table) {n : ℕ} {rep held kinds cells m r : List ℕ} {p : ℕ} → ClassRow n rep → Due rep (replicate 129 1) kinds cells m p → Lowered T rep held 1 m r →
+    OverRow T rep held kinds cells p r
+over-row T {rep = rep} {cells = cells} row due low = record {
+  due = λ q lt e. low .wider .kept (classAt rep (getD cells q 0)) (due .makes q lt e (ones 129 (classAt rep (getD cells q 0)) (omega (arith, row .low (getD cells q 0)))));
+  parts = low .parts;
+}
 
 pub leaked-all : {T : Table} {n : ℕ} {rep kinds cells held over m r : List ℕ} {p : ℕ} {ch : Bool} → HeldRow T rep m held → OverRow T rep held kinds cells p over →
     Leaking T n rep held over m r ch → Leaked T n rep kinds cells p m r ch

@@ -1,3 +1,4 @@
+pub mod KinLaws
 pub mod MeetLaws
 pub mod LeakLaws
 pub mod HopeLaws

@@ -1,44 +1,18 @@
--- Cells that may be equal, by their kinds, and the sweep that marks those that may be equal to a cell that is seen.
+-- What the class array of a search keeps, and the sweep that marks the cells that may be equal to a cell that is seen.
 use mathlib.Core.Path.{_≡_}
 use mathlib.Core.Bool.{Bool, true, false, true≢false, false≢true}
 use mathlib.Core.List.{List}
-use Prim.Native.Nat.{ℕ, zero, suc, _+_, _≤_, _<_}
+use Prim.Native.Nat.{ℕ, _+_, _≤_}
 use native.Mathlib.Omega.{arith}
-use lib.ListN.{length, getD, set}
+use lib.ListN.{length, set}
 use borrow.Author.Count.{below-more}
-use Rattle.model.specs.Case.{Cell, Table}
-use Rattle.model.specs.Stored.{cellAt, tableAt}
-use Rattle.theory.specs.Cells.{Rows, classAt, On}
-use Rattle.theory.specs.Level.{Kin}
-use Rattle.classes.specs.Kept.{Kept}
-use Rattle.classes.proofs.SolvedLaws.{kept-beyond, kept-small}
-use Rattle.knowledge.specs.Knowledge.{ClassRow, Marked}
+use Rattle.model.specs.Case.{Table}
+use Rattle.theory.specs.Cells.{classAt, On}
+use Rattle.knowledge.specs.Knowledge.{Marked}
 use Rattle.knowledge.proofs.Grow.{grown-none, grown-mark}
 use Rattle.hopeless.specs.Meets.{May, Alone, Equal, EqualTold, Equalling}
 
 -- ---- class arrays
-
-pub kept-row : {n : ℕ} {K F S rep : List ℕ} → Rows n K F S → Kept n (tableAt K F S) rep → ClassRow n rep
-kept-row {n} {K} {F} {S} {rep} w k = record { idem = k .reps .idem; low = kept-small n K F S w rep k; beyond = kept-beyond n K F S w rep k }
-
--- ---- kinds
-
-pub kin-sym : {k k′ : Cell} → Kin k k′ → Kin k′ k
-kin-sym Kin.ones = Kin.ones
-kin-sym (Kin.twos s) = Kin.twos s
-
-kin-low : (k f s : ℕ) {y : Cell} → k < 3 → Kin (cellAt k f s) y → ⊥
-kin-low zero f s h w = elim w [ ]
-kin-low (suc zero) f s h w = elim w [ ]
-kin-low (suc (suc zero)) f s h (Kin.twos x) = elim x [ ]
-kin-low (suc (suc (suc k))) f s h w = omega arith
-
-module _ (K F S rep : List ℕ) (c d : ℕ) where
-  pub may-left : getD K c 0 < 3 → May (tableAt K F S) rep c d → ⊥
-  may-left h w = kin-low (getD K c 0) (getD F c 0) (getD S c 0) h (w .kin)
-
-  pub may-right : getD K d 0 < 3 → May (tableAt K F S) rep c d → ⊥
-  may-right h w = kin-low (getD K d 0) (getD F d 0) (getD S d 0) h (kin-sym (w .kin))
 
 -- ---- the cells that are seen
 

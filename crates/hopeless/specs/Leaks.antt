@@ -1,5 +1,5 @@
 -- What comes to light where a cell over a free class is equal to one that may be seen.
--- Bright, Leaks: a part that is not yet seen; LeakTold: what is found at two cells; LeakingRow, Leaking: the sweeps; HeldRow, OverRow: the sets they go by;
+-- Bright, Leaks: a part that is not yet seen; LeakTold: what is found at two cells; LeakingRow, Leaking: the sweeps; OverRow: a set they go by;
 -- Tight: nothing more leaks; Leaked: all of it.
 use mathlib.Core.Path.{_≡_}
 use mathlib.Core.Logic.{_⊎_}
@@ -7,11 +7,12 @@ use mathlib.Core.Bool.{Bool, false}
 use mathlib.Core.List.{List}
 use Prim.Native.Nat.{ℕ, _≤_, _<_}
 use lib.ListN.{getD}
-use Rattle.model.specs.Case.{VA, Table, Part}
+use Rattle.model.specs.Case.{Table, Part}
 use Rattle.theory.specs.Cells.{classAt, On}
 use Rattle.knowledge.specs.Sweeps.{leftClass, rightClass, Grown}
 use Rattle.wants.specs.declared.starts.Pick.{Pick}
 use Rattle.wants.specs.declared.starts.Pick.the-variants as pick
+use Rattle.wants.specs.Sets.{HeldRow}
 use Rattle.hopeless.specs.Meets.{May}
 
 -- The class x is marked in the row `held`, and y is not yet seen.
@@ -38,11 +39,6 @@ pub record LeakingRow (T : Table) (rep held : List ℕ) (c : ℕ) (m r : List �
 pub record Leaking (T : Table) (n : ℕ) (rep held over m r : List ℕ) (changed : Bool) : Type 0 where
   pub grown : Grown rep m r changed
   pub still : changed ≡ false → (c : ℕ) → c < n → On over c → (d : ℕ) → d < n → Leaks T rep held r c d → ⊥
-
--- The row r has the cells that hold a free class that is seen.
-pub record HeldRow (T : Table) (rep seens r : List ℕ) : Type 0 where
-  pub here : (c : ℕ) → classAt rep c ≡ c → T c ≡ VA → On seens c → On r c
-  pub up : (c d : ℕ) → classAt rep c ≡ c → Part (T c) d → On r (classAt rep d) → On r c
 
 -- The row r has the cells to be made before p, and their parts as far as they are held.
 pub record OverRow (T : Table) (rep held kinds cells : List ℕ) (p : ℕ) (r : List ℕ) : Type 0 where

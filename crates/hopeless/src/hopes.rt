@@ -13,11 +13,10 @@ ghost use mathlib.Core.Bool.{true};
 ghost use Prim.Native.Nat.{_≤_};
 ghost use Rattle.model.specs.Case.{WellFormed};
 ghost use Rattle.model.specs.Stored.{tableAt, runAt};
-ghost use Rattle.theory.specs.Cells.{Rows, classAt, On};
+ghost use Rattle.theory.specs.Cells.{Rows, EventRows, classAt, On};
 ghost use Rattle.theory.specs.Search.{None};
 ghost use Rattle.classes.specs.Kept.{Kept, Solved};
 ghost use Rattle.knowledge.specs.Knowledge.{ClassRow, Marked};
-ghost use Rattle.wants.specs.Starts.{CellsBelow};
 ghost use Rattle.hopeless.specs.Hopes.{Rounded, Dreamt};
 
 // One round of the rules: the first of them that adds marks.
@@ -35,7 +34,7 @@ pub fn round<'a>(
 ) -> Turn
     requires { ⌜ Rows n (now kind) (now first) (now second) ⌝ }
     requires { ⌜ Kept n (tableAt (now kind) (now first) (now second)) rep ⌝ }
-    requires { ⌜ CellsBelow n (now ecell) p ⌝ }
+    requires { ⌜ EventRows n (now ecell) p ⌝ }
     requires { ⌜ Marked rep seen ⌝ }
     requires { ⌜ Marked rep built ⌝ }
     ensures { λ r. ⌜ Rounded (tableAt (now (kind .entry)) (now (first .entry)) (now (second .entry))) n rep (now (ekind .entry)) (now (ecell .entry)) p seen built (r .seen) (r .built) (r .changed) ⌝ }
@@ -79,7 +78,7 @@ pub fn dream<'a>(
 ) -> Marks
     requires { ⌜ Rows n (now kind) (now first) (now second) ⌝ }
     requires { ⌜ Kept n (tableAt (now kind) (now first) (now second)) rep ⌝ }
-    requires { ⌜ CellsBelow n (now ecell) p ⌝ }
+    requires { ⌜ EventRows n (now ecell) p ⌝ }
     requires { ⌜ Marked rep seen ⌝ }
     requires { ⌜ Marked rep built ⌝ }
     ensures { λ r. ⌜ Dreamt (tableAt (now (kind .entry)) (now (first .entry)) (now (second .entry))) n rep (now (ekind .entry)) (now (ecell .entry)) p seen built (r .seen) (r .built) ⌝ }
@@ -118,7 +117,7 @@ pub fn hopeless<'a>(
     rep: [u8; 129],
 ) -> bool
     requires { ⌜ Rows n (now kind) (now first) (now second) ⌝ }
-    requires { ⌜ CellsBelow n (now ecell) count ⌝ }
+    requires { ⌜ EventRows n (now ecell) count ⌝ }
     requires { ⌜ WellFormed (tableAt (now kind) (now first) (now second)) (runAt count (now ekind) (now ecell)) ⌝ }
     requires { ⌜ Solved n (tableAt (now kind) (now first) (now second)) rep ⌝ }
     ensures { λ r. ⌜ (r ≡ true → None (tableAt (now (kind .entry)) (now (first .entry)) (now (second .entry))) (runAt count (now (ekind .entry)) (now (ecell .entry))) (classAt rep)) ⌝ }

@@ -1,20 +1,18 @@
 // What comes to light where a cell over a free class is equal to one that may be seen.
-use super::meets::Row;
 use super::meets::may;
+use wants::sets::holds;
+use wants::spread::Swept;
 use wants::spread::lowered;
-use wants::spread::raised;
 use wants::starts::Pick;
 use wants::starts::due;
 use wants::starts::ends;
-use wants::starts::free_seen;
 ghost use Prim.Native.Nat.{_≤_, _<_};
 ghost use Rattle.model.specs.Stored.{tableAt};
-ghost use Rattle.theory.specs.Cells.{Rows};
+ghost use Rattle.theory.specs.Cells.{Rows, EventRows};
 ghost use Rattle.classes.specs.Kept.{Kept};
 ghost use Rattle.knowledge.specs.Knowledge.{ClassRow, Marked};
 ghost use Rattle.knowledge.specs.Sweeps.{Decides};
-ghost use Rattle.wants.specs.Starts.{CellsBelow};
-ghost use Rattle.hopeless.specs.Leaks.{Bright, LeakTold, LeakingRow, Leaking, HeldRow, OverRow, Leaked};
+ghost use Rattle.hopeless.specs.Leaks.{Bright, LeakTold, LeakingRow, Leaking, OverRow, Leaked};
 
 // Does y come to light, in the place of x?
 pub fn bright<'a>(held: &'a [u8; 129], seen: &'a [u8; 129], x: usize, y: usize) -> bool
@@ -73,7 +71,7 @@ pub fn leak_row<'a>(
     held: &'a [u8; 129],
     start: [u8; 129],
     c: usize,
-) -> Row
+) -> Swept
     requires { ⌜ Rows n (now kind) (now first) (now second) ⌝ }
     requires { ⌜ Kept n (tableAt (now kind) (now first) (now second)) rep ⌝ }
     requires { ⌜ Marked rep start ⌝ }
@@ -91,7 +89,7 @@ pub fn leak_row<'a>(
         }
         d += 1;
     }
-    Row {
+    Swept {
         marks: m,
         changed: changed,
     }
@@ -107,7 +105,7 @@ pub fn leak<'a>(
     held: &'a [u8; 129],
     over: &'a [u8; 129],
     start: [u8; 129],
-) -> Row
+) -> Swept
     requires { ⌜ Rows n (now kind) (now first) (now second) ⌝ }
     requires { ⌜ Kept n (tableAt (now kind) (now first) (now second)) rep ⌝ }
     requires { ⌜ Marked rep start ⌝ }
@@ -123,28 +121,10 @@ pub fn leak<'a>(
         }
         c += 1;
     }
-    Row {
+    Swept {
         marks: start,
         changed: false,
     }
-}
-
-// The cells that hold a free class that is seen.
-pub fn held_row<'a>(
-    kind: &'a [u8; 128],
-    first: &'a [u8; 128],
-    second: &'a [u8; 128],
-    n: usize,
-    rep: &'a [u8; 129],
-    seen: &'a [u8; 129],
-) -> [u8; 129]
-    requires { ⌜ Rows n (now kind) (now first) (now second) ⌝ }
-    requires { ⌜ ClassRow n (now rep) ⌝ }
-    requires { ⌜ Marked (now rep) (now seen) ⌝ }
-    ensures { λ r. ⌜ HeldRow (tableAt (now (kind .entry)) (now (first .entry)) (now (second .entry))) (now (rep .entry)) (now (seen .entry)) r ⌝ }
-{
-    let m = free_seen(kind, n, rep, seen);
-    raised(kind, first, second, n, rep, m)
 }
 
 // The cells that are to be made before p, and their parts as far as they are held.
@@ -161,7 +141,7 @@ pub fn over_row<'a>(
 ) -> [u8; 129]
     requires { ⌜ Rows n (now kind) (now first) (now second) ⌝ }
     requires { ⌜ ClassRow n (now rep) ⌝ }
-    requires { ⌜ CellsBelow n (now ecell) p ⌝ }
+    requires { ⌜ EventRows n (now ecell) p ⌝ }
     ensures { λ r. ⌜ OverRow (tableAt (now (kind .entry)) (now (first .entry)) (now (second .entry))) (now (rep .entry)) (now (held .entry)) (now (ekind .entry)) (now (ecell .entry)) p r ⌝ }
 {
     let all = [1; 129];
@@ -180,14 +160,14 @@ pub fn leaked<'a>(
     ecell: &'a [u8; 128],
     p: usize,
     start: [u8; 129],
-) -> Row
+) -> Swept
     requires { ⌜ Rows n (now kind) (now first) (now second) ⌝ }
     requires { ⌜ Kept n (tableAt (now kind) (now first) (now second)) rep ⌝ }
-    requires { ⌜ CellsBelow n (now ecell) p ⌝ }
+    requires { ⌜ EventRows n (now ecell) p ⌝ }
     requires { ⌜ Marked rep start ⌝ }
     ensures { λ r. ⌜ Leaked (tableAt (now (kind .entry)) (now (first .entry)) (now (second .entry))) n rep (now (ekind .entry)) (now (ecell .entry)) p start (r .marks) (r .changed) ⌝ }
 {
-    let held = held_row(kind, first, second, n, &rep, &start);
+    let held = holds(kind, first, second, n, &rep, &start);
     let over = over_row(kind, first, second, n, &rep, &held, ekind, ecell, p);
     leak(kind, first, second, n, rep, &held, &over, start)
 }

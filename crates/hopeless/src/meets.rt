@@ -1,19 +1,43 @@
 // Cells that may be equal to one that may be seen.
 use classes::unify;
 use knowledge::class_of;
+use wants::spread::Swept;
 ghost use mathlib.Core.Path.{_≡_};
 ghost use mathlib.Core.Bool.{false};
-ghost use Prim.Native.Nat.{_<_};
-ghost use Rattle.model.specs.Stored.{tableAt};
+ghost use mathlib.Core.List.{List};
+ghost use Prim.Native.Nat.{ℕ, _<_};
+ghost use Rattle.model.specs.Stored.{cellAt, tableAt};
 ghost use Rattle.theory.specs.Cells.{Rows, On};
+ghost use Rattle.theory.specs.Level.{Kin};
 ghost use Rattle.classes.specs.Kept.{Kept};
 ghost use Rattle.knowledge.specs.Knowledge.{Marked};
+ghost use Rattle.knowledge.specs.Sweeps.{Decides};
 ghost use Rattle.hopeless.specs.Meets.{May, Alone, EqualTold, Equalling};
 
-// A row of marks, and whether it has more than before.
-pub struct Row {
-    pub marks: [u8; 129],
-    pub changed: bool,
+// Are two cells of one kind that has parts and does not give them by itself? By their kinds and first bytes.
+pub fn kin_bytes(kind: u8, first: u8, kind2: u8, first2: u8) -> bool
+    ensures { λ r. ⌜ ((s s2 : ℕ) → Decides r (Kin (cellAt kind first s) (cellAt kind2 first2 s2))) ⌝ }
+{
+    if kind < 3 {
+        return false;
+    }
+    if kind == 3 {
+        return kind2 == 3;
+    }
+    if kind2 < 4 {
+        return false;
+    }
+    first == first2
+}
+
+// Are the cells c and d of one such kind?
+pub fn kin<'a>(kind: &'a [u8; 128], first: &'a [u8; 128], c: usize, d: usize) -> bool
+    requires { ⌜ c < 128 ⌝ }
+    requires { ⌜ d < 128 ⌝ }
+    ensures { λ r. ⌜ ((seconds : List ℕ) →
+        Decides r (Kin (tableAt (now (kind .entry)) (now (first .entry)) seconds c) (tableAt (now (kind .entry)) (now (first .entry)) seconds d))) ⌝ }
+{
+    kin_bytes(kind[c], first[c], kind[d], first[d])
 }
 
 // May c be equal to d, which is seen? If not, it is not.
@@ -36,10 +60,7 @@ pub fn may<'a>(
     if seen[d] != 1 {
         return false;
     }
-    if kind[c] < 3 {
-        return false;
-    }
-    if kind[d] < 3 {
+    if !kin(kind, first, c, d) {
         return false;
     }
     if class_of(&rep, c) == class_of(&rep, d) {
@@ -108,7 +129,7 @@ pub fn equal<'a>(
     rep: [u8; 129],
     seen: &'a [u8; 129],
     start: [u8; 129],
-) -> Row
+) -> Swept
     requires { ⌜ Rows n (now kind) (now first) (now second) ⌝ }
     requires { ⌜ Kept n (tableAt (now kind) (now first) (now second)) rep ⌝ }
     requires { ⌜ Marked rep start ⌝ }
@@ -124,7 +145,7 @@ pub fn equal<'a>(
         }
         c += 1;
     }
-    Row {
+    Swept {
         marks: m,
         changed: changed,
     }

@@ -1,148 +1,90 @@
--- What is read of an accepted file, and what its rows say of it.
-use mathlib.Core.Path.{_≡_, refl, sym, _∙_, ap, subst, fun-ext}
+-- What the rows of an accepted file say of a value list, and the replies by them.
+use mathlib.Core.Path.{_≡_, sym, _∙_, ap, subst}
 use mathlib.Core.List.{List}
 use Prim.Native.Nat.{ℕ, _≤_, _<_}
 use native.Mathlib.Omega.{arith}
 use lib.ListN.{length, getD}
-use Rattle.model.specs.Message.{App, Two}
-use Rattle.model.specs.Case.{Cell, AT, VA, ONE, TWO, File, MK, Table, Run, tableOf, runOf}
+use Rattle.model.specs.Case.{Cell, Table, Run, tableOf}
 use Rattle.model.specs.Reduce.{kind}
-use Rattle.model.specs.Stored.{first, second, asks, aim, row, tableAt, runAt}
-use Rattle.model.specs.Values.{Form, RightList}
-use Rattle.model.specs.Format.{Reading, readFile}
-use Rattle.model.proofs.Read.{clash}
-use Rattle.model.proofs.Listed.{elem-getD}
+use Rattle.model.specs.Stored.{first, second, row, tableAt, runAt}
+use Rattle.model.specs.Values.{Entry, Form, RightList}
 use Rattle.model.proofs.Accepted.{Bytes, accepted-file}
-use Rattle.model.proofs.Rows.{row-at, length-row, kind-row, first-row, second-row, table-rows, run-rows}
-use Rattle.theory.specs.Cells.{Rows}
-use Rattle.theory.proofs.Rows.{accepted-rows}
+use Rattle.model.proofs.Rows.{length-row, kind-row, first-row, second-row}
+use Rattle.model.proofs.Stored.{kind-variable}
+use Rattle.theory.specs.Cells.{Rows, EventRows}
 use Rattle.casefile.specs.declared.Case.{Case}
-use Rattle.casefile.specs.declared.events.Verdict.the-variants as verdict
-use Rattle.casefile.specs.Case.{caseOf}
+use Rattle.casefile.proofs.CaseFile.{CaseFile, case-count, case-table, case-run, case-rows, case-events}
 use Rattle.judging.specs.declared.Judged.the-variants.{Refused, Wrong, Right}
 use Rattle.judging.specs.Form.{VarsAt, FirstBad, entryCell, Blank}
-use Rattle.judging.specs.Promise.{FormOf, JudgePromise}
-use Rattle.judging.proofs.PromiseLaws.{promise-refused, promise-size, promise-form, promise-right, promise-wrong}
+use Rattle.judging.specs.Promise.{EntryOf, FormOf, RightOf, JudgePromise}
+use Rattle.judging.proofs.PromiseLaws.{promise-size, promise-form, promise-right, promise-wrong}
 
--- ---- refused, or accepted
-
-pub judged-refused : (file list : List ℕ) (r : Case) (number place : ℕ) → r ≡ caseOf (readFile file) → r .verdict ≡ verdict.Refused number place → JudgePromise file list (Refused number place)
-judged-refused file list r number place e v = go (readFile file) refl
-  where
-    told : (n p : ℕ) → verdict.Refused n p ≡ verdict.Refused number place → Reading.refused n p ≡ Reading.refused number place
-    told n p i = cc
-
-    go : (x : Reading) → readFile file ≡ x → JudgePromise file list (Refused number place)
-    go (Reading.refused n p) i =
-        let z : verdict.Refused n p ≡ verdict.Refused number place = sym (ap (λ (k : Case). k .verdict) (e ∙ ap caseOf i)) ∙ v in
-        promise-refused file list number place (i ∙ told n p z)
-    go (Reading.accepted f) i =
-        let z : verdict.Accepted ≡ verdict.Refused number place = sym (ap (λ (k : Case). k .verdict) (e ∙ ap caseOf i)) ∙ v in
-        clash (cc)
-
-pub read-accepted : (file : List ℕ) (r : Case) → r ≡ caseOf (readFile file) → r .verdict ≡ verdict.Accepted → (f : File) × (readFile file ≡ Reading.accepted f) × (r ≡ caseOf (Reading.accepted f))
-read-accepted file r e v = go (readFile file) refl
-  where
-    go : (x : Reading) → readFile file ≡ x → (f : File) × (readFile file ≡ Reading.accepted f) × (r ≡ caseOf (Reading.accepted f))
-    go (Reading.refused n p) i =
-        let z : verdict.Refused n p ≡ verdict.Accepted = sym (ap (λ (k : Case). k .verdict) (e ∙ ap caseOf i)) ∙ v in
-        clash (cc)
-    go (Reading.accepted f) i = (f, i, e ∙ ap caseOf i)
-
--- ---- the rows of cells and events
-
-kind-one : (k : Cell) → kind k ≡ 1 → k ≡ VA
-kind-one (AT n) e = absurd (omega arith)
-kind-one VA e = refl
-kind-one (ONE (App f) a) e = absurd (omega arith)
-kind-one (TWO Two.Pair l r) e = absurd (omega arith)
-kind-one (TWO Two.Seal l r) e = absurd (omega arith)
+-- ---- where the variables stand
 
 module _ (cells : List Cell) where
-  var-row : (c : ℕ) → getD (row kind cells) c 0 ≡ 1 → tableOf cells c ≡ VA
-  var-row c h = kind-one (tableOf cells c) (sym (kind-row cells c) ∙ h)
-
   vars-row : VarsAt (row kind cells) (tableOf cells)
-  vars-row = record { kind = λ c v. kind-row cells c ∙ ap kind v; var = var-row }
+  vars-row = record { kind = λ c v. kind-row cells c ∙ ap kind v; var = λ c h. kind-variable (tableOf cells c) (sym (kind-row cells c) ∙ h) }
 
   blank-row : Blank (row kind cells) (row first cells) (row second cells)
-  blank-row c h = (first-row cells c ∙ ap first (var-row c h), second-row cells c ∙ ap second (var-row c h))
+  blank-row c h = let v = vars-row .var c h in (first-row cells c ∙ ap first v, second-row cells c ∙ ap second v)
 
-  table-same : tableAt (row kind cells) (row first cells) (row second cells) ≡ tableOf cells
-  table-same = fun-ext (table-rows cells)
+-- ---- the replies
 
--- ---- the replies to an accepted file, by what is read of it
+module _ {file : List ℕ} {r : Case} (w : CaseFile file r) (list : List ℕ) where
+  vars : VarsAt (r .table .kind) (tableOf (w .f .cells))
+  vars = subst (λ t. VarsAt (t .kind) (tableOf (w .f .cells))) (sym (w .table)) (vars-row (w .f .cells))
 
-module _ (file list : List ℕ) (f : File) (e : readFile file ≡ Reading.accepted f) where
-  abbrev stored : Case
-  stored = caseOf (Reading.accepted f)
+  -- An entry has the form in the rows exactly if it has it in the file.
+  entry-is : (c : ℕ) → Entry (tableOf (w .f .cells)) (r .table .cells) c (getD list c 0) ≡ EntryOf (w .f) list c
+  entry-is c = ap (λ n. Entry (tableOf (w .f .cells)) n c (getD list c 0)) (case-count w)
 
-  aims : (p : ℕ) → p < length (f .events) → getD (row aim (f .events)) p 0 < length (f .cells)
-  aims p h =
-      let i = accepted-file file f e .inside p (getD (f .events) p (MK 0)) (elem-getD (f .events) p (MK 0) h) in
-      let z = row-at aim (f .events) (MK 0) p refl in
-      omega arith
+  pub judged-few : r .table .cells ≤ 128
+  judged-few = omega (arith, case-count w, accepted-file file (w .f) (w .read) .fewCells)
 
-  form-all : length list ≡ length (f .cells) → (c : ℕ) → FirstBad (row kind (f .cells)) (length (f .cells)) list c → (c < length (f .cells) → ⊥) → FormOf f list
-  form-all l c b far = record {
-    size = l;
-    entries = λ d h. b .good d (let z : length (f .cells) ≤ c = not-below far in omega arith) (tableOf (f .cells)) (vars-row (f .cells));
-  }
-    where
-      not-below : (c < length (f .cells) → ⊥) → length (f .cells) ≤ c
-      not-below no-lt = omega arith
+  pub judged-size : (length list ≡ r .table .cells → ⊥) → JudgePromise file list (Refused 10 (r .table .cells))
+  judged-size other = subst (λ n. JudgePromise file list (Refused 10 n)) (sym (case-count w)) (promise-size file list (w .f) (w .read) (λ e. other (e ∙ sym (case-count w))))
 
-  module _ (r : Case) (i : r ≡ caseOf (Reading.accepted f)) where
-    pub judged-few : r .table .cells ≤ 128
-    judged-few = subst (λ (k : Case). k .table .cells ≤ 128) (sym i) (accepted-file file f e .fewCells)
+  module _ (l : length list ≡ r .table .cells) (c : ℕ) (b : FirstBad (r .table .kind) (r .table .cells) list c) where
+    good : (d : ℕ) → d < c → EntryOf (w .f) list d
+    good d h = subst (λ (A : Type 0). A) (entry-is d) (b .good d h (tableOf (w .f .cells)) vars)
 
-    pub judged-size : (length list ≡ r .table .cells → ⊥) → JudgePromise file list (Refused 10 (r .table .cells))
-    judged-size = subst (λ (k : Case). (length list ≡ k .table .cells → ⊥) → JudgePromise file list (Refused 10 (k .table .cells))) (sym i) (promise-size file list f e)
+    pub judged-form : c < r .table .cells → JudgePromise file list (Refused 10 c)
+    judged-form h = promise-form file list (w .f) (w .read) (l ∙ case-count w) c (omega (arith, case-count w)) good
+        (λ e. b .bad h (tableOf (w .f .cells)) vars (subst (λ (A : Type 0). A) (sym (entry-is c)) e))
 
-    pub judged-form : length list ≡ r .table .cells → (c : ℕ) → FirstBad (r .table .kind) (r .table .cells) list c → c < r .table .cells → JudgePromise file list (Refused 10 c)
-    judged-form =
-        subst (λ (k : Case). length list ≡ k .table .cells → (c : ℕ) → FirstBad (k .table .kind) (k .table .cells) list c → c < k .table .cells → JudgePromise file list (Refused 10 c)) (sym i)
-        (λ l c b h. promise-form file list f e l c h (λ d g. b .good d g (tableOf (f .cells)) (vars-row (f .cells))) (b .bad h (tableOf (f .cells)) (vars-row (f .cells))))
+    -- A list without an entry of bad form has the form, in the file and in its rows.
+    module _ (far : r .table .cells ≤ c) where
+      form : FormOf (w .f) list
+      form = record { size = l ∙ case-count w; entries = λ d h. good d (omega (arith, case-count w)) }
 
-    pub judged-rows : Bytes file → length list ≡ r .table .cells → (c : ℕ) → FirstBad (r .table .kind) (r .table .cells) list c → (c < r .table .cells → ⊥) →
-        Rows (r .table .cells) (r .table .kind) (r .table .first) (r .table .second) × ((length (r .table .kind) ≡ 128) × (Blank (r .table .kind) (r .table .first) (r .table .second)
-        × ((r .events .count ≤ 128) × (((p : ℕ) → p < r .events .count → getD (r .events .cell) p 0 < r .table .cells)
-        × Form (tableAt (r .table .kind) (r .table .first) (r .table .second)) (r .table .cells) list))))
-    judged-rows bytes =
-        subst (λ (k : Case). length list ≡ k .table .cells → (c : ℕ) → FirstBad (k .table .kind) (k .table .cells) list c → (c < k .table .cells → ⊥) →
-        Rows (k .table .cells) (k .table .kind) (k .table .first) (k .table .second) × ((length (k .table .kind) ≡ 128) × (Blank (k .table .kind) (k .table .first) (k .table .second)
-        × ((k .events .count ≤ 128) × (((p : ℕ) → p < k .events .count → getD (k .events .cell) p 0 < k .table .cells)
-        × Form (tableAt (k .table .kind) (k .table .first) (k .table .second)) (k .table .cells) list))))) (sym i)
-        (λ l c b far. (
-          accepted-rows file f bytes e,
+      pub judged-rows : Bytes file → Rows (r .table .cells) (r .table .kind) (r .table .first) (r .table .second) × ((length (r .table .kind) ≡ 128)
+          × (Blank (r .table .kind) (r .table .first) (r .table .second)
+          × (EventRows (r .table .cells) (r .events .cell) (r .events .count) × Form (tableAt (r .table .kind) (r .table .first) (r .table .second)) (r .table .cells) list)))
+      judged-rows bytes = (
+        case-rows w bytes,
+        (
+          subst (λ t. length (t .kind) ≡ 128) (sym (w .table)) (length-row kind (w .f .cells) (accepted-file file (w .f) (w .read) .fewCells)),
           (
-            length-row kind (f .cells) (accepted-file file f e .fewCells),
+            subst (λ t. Blank (t .kind) (t .first) (t .second)) (sym (w .table)) (blank-row (w .f .cells)),
             (
-              blank-row (f .cells),
-              (
-                accepted-file file f e .fewEvents,
-                (aims, subst (λ (T : Table). Form T (length (f .cells)) list) (sym (table-same (f .cells))) (form-all l c b far)),
-              ),
+              case-events w,
+              subst (λ T. Form T (r .table .cells) list) (sym (case-table w)) (subst (λ n. Form (tableOf (w .f .cells)) n list) (sym (case-count w)) form),
             ),
           ),
-        ))
+        ),
+      )
 
-    -- The form of the list, and whether it is right, in the table and the run of the rows.
-    module _ (l : length list ≡ r .table .cells) (c : ℕ) (b : FirstBad (r .table .kind) (r .table .cells) list c) (far : c < r .table .cells → ⊥) where
-      form : FormOf f list
-      form = subst (λ (k : Case). length list ≡ k .table .cells → FirstBad (k .table .kind) (k .table .cells) list c → (c < k .table .cells → ⊥) → FormOf f list) (sym i)
-          (λ l b far. form-all l c b far) l b far
+      abbrev RightRows : Type 0
+      RightRows = RightList (tableAt (r .table .kind) (r .table .first) (r .table .second)) (runAt (r .events .count) (r .events .kind) (r .events .cell)) (entryCell list)
 
-      abbrev RightRows : Case → Type 0
-      RightRows k = RightList (tableAt (k .table .kind) (k .table .first) (k .table .second)) (runAt (k .events .count) (k .events .kind) (k .events .cell)) (entryCell list)
+      -- The list is right in the rows exactly if it is right in the file.
+      right-is : RightRows ≡ RightOf (w .f) list
+      right-is =
+          ap (λ (T : Table). RightList T (runAt (r .events .count) (r .events .kind) (r .events .cell)) (entryCell list)) (case-table w)
+          ∙ ap (λ (ev : Run). RightList (tableOf (w .f .cells)) ev (entryCell list)) (case-run w)
 
-      here : RightRows stored ≡ RightList (tableOf (f .cells)) (runOf (f .events)) (entryCell list)
-      here =
-          ap (λ (T : Table). RightList T (runAt (length (f .events)) (row asks (f .events)) (row aim (f .events))) (entryCell list)) (table-same (f .cells))
-          ∙ ap (λ (ev : Run). RightList (tableOf (f .cells)) ev (entryCell list)) (fun-ext (run-rows (f .events)))
+      pub judged-right : RightRows → JudgePromise file list Right
+      judged-right x = promise-right file list (w .f) (w .read) form (subst (λ (A : Type 0). A) right-is x)
 
-      pub judged-right : RightRows r → JudgePromise file list Right
-      judged-right x = promise-right file list f e form (subst (λ (A : Type 0). A) here (subst RightRows i x))
-
-      pub judged-wrong : (RightRows r → ⊥) → JudgePromise file list Wrong
-      judged-wrong none = promise-wrong file list f e form (λ x. none (subst RightRows (sym i) (subst (λ (A : Type 0). A) (sym here) x)))
+      pub judged-wrong : (RightRows → ⊥) → JudgePromise file list Wrong
+      judged-wrong none = promise-wrong file list (w .f) (w .read) form (λ x. none (subst (λ (A : Type 0). A) (sym right-is) x))

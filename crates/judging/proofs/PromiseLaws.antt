@@ -1,13 +1,16 @@
--- When a reply keeps the promise: a law for each of the replies.
+-- When a reply keeps the promise: a law for each of the replies; and that the form of a list is decided.
 use mathlib.Core.Path.{_≡_, refl, sym, _∙_, ap, subst}
 use mathlib.Core.List.{List}
+use mathlib.Core.Logic.{_⊎_, inl, inr}
 use Prim.Native.Nat.{ℕ, _<_}
 use native.Mathlib.Omega.{arith}
 use native.Mathlib.Decide.{decLt}
-use lib.ListN.{length}
-use Rattle.model.specs.Case.{File}
+use lib.ListN.{length, getD}
+use Rattle.model.specs.Case.{VA, File, Table, tableOf}
+use Rattle.model.specs.Values.{Entry, bound, own, itself}
 use Rattle.model.specs.Format.{Reading, readFile}
-use Rattle.model.proofs.Read.{clash}
+use Rattle.model.proofs.Finite.{eq?, least}
+use Rattle.model.proofs.Read.{clash, var?}
 use Rattle.judging.specs.declared.Judged.the-variants.{Refused, Wrong, Right}
 use Rattle.judging.specs.Promise.{EntryOf, FormOf, RightOf, JudgePromise}
 
@@ -120,3 +123,49 @@ module _ (file list : List ℕ) (f : File) (e : readFile file ≡ Reading.accept
       where
         here : (g : File) → readFile file ≡ Reading.accepted g → RightOf g list → ⊥
         here g i r = none (subst (λ (x : File). RightOf x list) (sym (same g i)) r)
+
+-- ---- the form is decided
+
+no-entry : {T : Table} {n c x : ℕ} → T c ≡ VA → (x ≡ 255 → ⊥) → (x < n → (T x ≡ VA → ⊥) → ⊥) → Entry T n c x → ⊥
+no-entry v ne far (bound i l s) = far l s
+no-entry v ne far (own i e) = ne e
+no-entry v ne far (itself s e) = s v
+
+no-other : {T : Table} {n c x : ℕ} → (T c ≡ VA → ⊥) → (x ≡ c → ⊥) → Entry T n c x → ⊥
+no-other s ne (bound i l t) = s i
+no-other s ne (own i e) = s i
+no-other s ne (itself t e) = ne e
+
+entry? : (T : Table) (n c x : ℕ) → Entry T n c x ⊎ (Entry T n c x → ⊥)
+entry? T n c x = elim (var? (T c)) [
+  | inr s ↦ elim (eq? x c) [ inl e ↦ inl (itself s e) | inr ne ↦ inr (no-other s ne) ]
+  | inl v ↦ elim (eq? x 255) [
+    | inl e ↦ inl (own v e)
+    | inr ne ↦ elim (decLt x n) [
+      | no far ↦ inr (no-entry v ne (λ l t. far l))
+      | yes l ↦ elim (var? (T x)) [ inr s ↦ inl (bound v l s) | inl w ↦ inr (no-entry v ne (λ _ t. t w)) ]
+    ]
+  ]
+]
+
+-- A list of the right length has a first entry of bad form, or the form.
+abbrev pub Bad : File → List ℕ → Type 0
+Bad f list = (c : ℕ) × (c < length (f .cells)) × ((d : ℕ) → d < c → EntryOf f list d) × (EntryOf f list c → ⊥)
+
+pub form? : (f : File) (list : List ℕ) → length list ≡ length (f .cells) → Bad f list ⊎ FormOf f list
+form? f list l = elim (least Off off? (λ c. c) (length (f .cells))) [
+  | inl (c, (h, bad), first) ↦ inl (c, h, λ d g. elim (at d) [ inl y ↦ y | inr z ↦ (let k = first d (omega arith) (omega arith, z) in absurd (omega arith)) ], bad)
+  | inr none ↦ inr (record { size = l; entries = λ c h. elim (at c) [ inl y ↦ y | inr z ↦ absurd (none c h (h, z)) ] })
+]
+  where
+    at : (c : ℕ) → EntryOf f list c ⊎ (EntryOf f list c → ⊥)
+    at c = entry? (tableOf (f .cells)) (length (f .cells)) c (getD list c 0)
+
+    Off : ℕ → Type 0
+    Off c = (c < length (f .cells)) × (EntryOf f list c → ⊥)
+
+    off? : (c : ℕ) → Off c ⊎ (Off c → ⊥)
+    off? c = elim (decLt c (length (f .cells))) [
+      | no far ↦ inr (λ (h, _). far h)
+      | yes h ↦ elim (at c) [ inl y ↦ inr (λ (_, z). z y) | inr z ↦ inl (h, z) ]
+    ]

@@ -7,40 +7,30 @@ use Prim.Native.Nat.{ℕ, suc, _≤_, _<_}
 use native.Mathlib.Omega.{arith}
 use native.Mathlib.Decide.{decLt}
 use lib.ListN.{getD, List·getD-eq-default}
-use borrow.Author.Tests.{eq-eqb, ne-eqb}
 use Rattle.model.specs.Message.{Message, atom, Built}
 use Rattle.model.specs.Case.{Cell, AT, VA, ONE, TWO, Table, Run, look, Reads, Part, Known, Right}
-use Rattle.model.specs.Values.{cellOf, Entry, bound, own, itself, Form, RightList}
+use Rattle.model.specs.Values.{Entry, bound, own, itself, Form, RightList}
 use Rattle.model.specs.Stored.{tableAt}
 use Rattle.model.proofs.Finite.{eq?}
 use Rattle.model.proofs.Read.{clash, var?}
+use Rattle.model.proofs.Rows.{no-part}
+use Rattle.model.proofs.Stored.{var-kind, cell-own, cell-other}
 use Rattle.theory.specs.Cells.{Rows, classAt}
 use Rattle.theory.specs.Classes.{Alike, Sat}
 use Rattle.theory.specs.Level.{Mark, built}
 use Rattle.theory.proofs.Level.{class-reads}
+use Rattle.theory.proofs.Rows.{rows-beyond, rows-formed, rows-var}
 use Rattle.theory.proofs.Twins.{shows-apart}
 use Rattle.classes.specs.declared.Settled.{Settled}
 use Rattle.classes.specs.Kept.{Solved}
 use Rattle.classes.specs.Upward.{Raised}
-use Rattle.classes.proofs.CellLaws.{var-kind}
-use Rattle.classes.proofs.RowLaws.{rows-beyond, rows-formed, rows-var}
-use Rattle.classes.proofs.SolvedLaws.{solved-met, kept-beyond, kept-small}
-use Rattle.knowledge.specs.Knowledge.{ClassRow}
+use Rattle.classes.proofs.SolvedLaws.{solved-met}
 use Rattle.knowledge.proofs.Ground.{mark-iff-built}
 use Rattle.judging.specs.Form.{entryCell, Owned, Blank}
 use Rattle.judging.specs.Follow.{Inside, Listed, Follows}
 use Rattle.judging.specs.Made.{AllMade}
 
 -- ---- the table with his own name for the entries 255
-
-no-part : {p d : ℕ} → Part (AT p) d → ⊥
-no-part h = elim h [ ]
-
-cell-own : (x : ℕ) → x ≡ 255 → cellOf x ≡ 128
-cell-own x e = rw (eq-eqb x 255 e)
-
-cell-other : (x : ℕ) → (x ≡ 255 → ⊥) → cellOf x ≡ x
-cell-other x ne = rw (ne-eqb x 255 ne)
 
 entry-own : {T : Table} {n c x : ℕ} → n ≤ 128 → c < n → x ≡ 255 → Entry T n c x → T c ≡ VA
 entry-own few h e (bound v l s) = v
@@ -98,12 +88,12 @@ module _ (n : ℕ) (K F S list out : List ℕ) (w : Rows n K F S) (blank : Blank
   inside-own v i =
       let ne = var-entry v i in
       let u : T v ≡ VA = sym (rest-cell v ne) ∙ i in
-      let (l, s) = entry-bound u ne (form .entries v (rows-var n K F S w v u)) in
+      let (l, s) = entry-bound u ne (form .entries v (rows-var w v u)) in
       (l, λ j. s (sym (rest-cell (getD list v 0) (var-entry (getD list v 0) j)) ∙ j))
 
   -- The messages that follow the list are the same.
   name : T 128 ≡ AT 0
-  name = rows-beyond n K F S w 128 (w .few)
+  name = rows-beyond w 128 (w .few)
 
   own-shown : (m : ℕ → Message) → Reads T m m → (c : ℕ) → getD list c 0 ≡ 255 → m (entryCell list c) ≡ atom 0
   own-shown m mr c e = ap m (cell-own (getD list c 0) e) ∙ (mr 128 ∙ ap (look (m 128) m) name)
@@ -135,9 +125,6 @@ module _ (n : ℕ) (K F S list out : List ℕ) (w : Rows n K F S) (blank : Blank
 -- ---- the classes of the cells that show one message
 
 module _ (n : ℕ) (K F S : List ℕ) (w : Rows n K F S) (rep : List ℕ) (solved : Solved n (tableAt K F S) rep) where
-  pub class-row : ClassRow n rep
-  class-row = record { idem = solved .kept .reps .idem; low = kept-small n K F S w rep (solved .kept); beyond = kept-beyond n K F S w rep (solved .kept) }
-
   module _ (list : List ℕ) (inside : Inside n (tableAt K F S) list) (sat : (m : ℕ → Message) → Reads (tableAt K F S) m m → Listed (tableAt K F S) list m ↔ Sat (classAt rep) m)
       (up : (c d : ℕ) → Alike (classAt rep) (tableAt K F S c) (tableAt K F S d) → classAt rep c ≡ classAt rep d) where
     abbrev U : Table
@@ -177,7 +164,7 @@ module _ (n : ℕ) (K F S : List ℕ) (w : Rows n K F S) (rep : List ℕ) (solve
       -- So the marks are what he can build,
       mark-built : (m : ℕ → Message) → Reads U m m → Sat cls m → (p c : ℕ) → Mark U cls ev p built c ↔ Built (Known ev m p) (m c)
       mark-built m mr s p c =
-          mark-iff-built U cls ev p (rows-formed n K F S w) (solved .kept .reps .idem) m mr s (λ d v. absurd (bound-class d v)) (λ d e i. inl (one-class m mr s d e i)) c
+          mark-iff-built U cls ev p (rows-formed w) (solved .kept .reps .idem) m mr s (λ d v. absurd (bound-class d v)) (λ d e i. inl (one-class m mr s d e i)) c
 
       -- and the list is right exactly if all that is to be made is marked.
       pub made-right : AllMade (tableAt K F S) rep ev true → (m : ℕ → Message) × Reads (tableAt K F S) m m × Listed (tableAt K F S) list m × Right ev m

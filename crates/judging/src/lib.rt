@@ -6,11 +6,10 @@ pub mod made;
 use casefile::events::Verdict;
 ghost use mathlib.Core.Path.{_≡_};
 ghost use mathlib.Core.Bool.{true, false};
-ghost use Prim.Native.Nat.{ℕ, _≤_, _<_};
-ghost use lib.ListN.{length, getD};
+ghost use lib.ListN.{length};
 ghost use Rattle.model.specs.Values.{Form, RightList};
 ghost use Rattle.model.specs.Stored.{tableAt, runAt};
-ghost use Rattle.theory.specs.Cells.{Rows};
+ghost use Rattle.theory.specs.Cells.{Rows, EventRows};
 ghost use Rattle.judging.specs.Promise.{JudgePromise};
 ghost use Rattle.judging.specs.Form.{entryCell, Blank};
 
@@ -35,8 +34,7 @@ fn is_right<'a>(
     requires { ⌜ Rows n (now kind) (now first) (now second) ⌝ }
     requires { ⌜ length (now kind) ≡ 128 ⌝ }
     requires { ⌜ Blank (now kind) (now first) (now second) ⌝ }
-    requires { ⌜ count ≤ 128 ⌝ }
-    requires { ⌜ ((p : ℕ) → p < count → getD (now aim) p 0 < n) ⌝ }
+    requires { ⌜ EventRows n (now aim) count ⌝ }
     requires { ⌜ Form (tableAt (now kind) (now first) (now second)) n (now list) ⌝ }
     ensures yes { λ r. ⌜ (r ≡ true → RightList (tableAt (now (kind .entry)) (now (first .entry)) (now (second .entry)))
         (runAt count (now (asks .entry)) (now (aim .entry))) (entryCell (now (list .entry)))) ⌝ }

@@ -1,8 +1,7 @@
 // What is to be made, event by event: an LN adds to what is seen, an MK asks whether its cell is built from what was learnt before it.
-ghost use Prim.Native.Nat.{ℕ, _≤_, _<_};
-ghost use lib.ListN.{getD};
+ghost use Prim.Native.Nat.{_≤_};
 ghost use Rattle.model.specs.Stored.{tableAt, runAt};
-ghost use Rattle.theory.specs.Cells.{Rows};
+ghost use Rattle.theory.specs.Cells.{Rows, EventRows};
 ghost use Rattle.knowledge.specs.Knowledge.{ClassRow, Marked};
 ghost use Rattle.judging.specs.Made.{Steps, AllMade};
 
@@ -60,8 +59,7 @@ pub fn all_made<'a>(
 ) -> bool
     requires { ⌜ Rows n (now kind) (now first) (now second) ⌝ }
     requires { ⌜ ClassRow n (now rep) ⌝ }
-    requires { ⌜ count ≤ 128 ⌝ }
-    requires { ⌜ ((p : ℕ) → p < count → getD (now aim) p 0 < n) ⌝ }
+    requires { ⌜ EventRows n (now aim) count ⌝ }
     ensures { λ r. ⌜ AllMade (tableAt (now (kind .entry)) (now (first .entry)) (now (second .entry))) (now (rep .entry)) (runAt count (now (asks .entry)) (now (aim .entry))) r ⌝ }
 {
     let mut seen = [0u8; 129];

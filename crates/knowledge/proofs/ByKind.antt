@@ -1,17 +1,16 @@
 -- The decisions on a cell, by its kind.
-use mathlib.Core.Path.{_≡_, refl, sym, _∙_, ap}
+use mathlib.Core.Path.{_≡_, refl, sym, _∙_}
 use mathlib.Core.Bool.{Bool, true, false, true≢false, false≢true}
-use mathlib.Core.List.{List}
+use mathlib.Core.Logic.{_⊎_, inl, inr}
 use Prim.Native.Nat.{ℕ, zero, suc, _+_, _*_, _≤_, _<_}
 use native.Mathlib.Omega.{arith}
-use mathlib.Core.Logic.{_⊎_, inl, inr}
-use Rattle.model.proofs.Read.{clash}
 use lib.Dec.{eqb}
-use lib.ListN.{getD}
 use borrow.Author.Tests.{eqb-true, eqb-false}
 use Rattle.model.specs.Case.{Cell, AT, VA, ONE, TWO, PR, Part, in-arg, in-left, in-right}
 use Rattle.model.specs.Stored.{cellAt}
-use Rattle.theory.specs.Cells.{Composes, Makes, classAt}
+use Rattle.model.proofs.Read.{clash}
+use Rattle.model.proofs.Stored.{var-kind}
+use Rattle.theory.specs.Cells.{Composes, Makes}
 use Rattle.knowledge.specs.Sweeps.{leftPart, rightPart, Composed, Gives, Decides}
 
 -- ---- answers
@@ -27,11 +26,6 @@ decides-eqb a b to of = record { yes = λ e. to (eqb-true a b e); no = λ e x. e
 
 pub decides-iff : {r : Bool} {P Q : Type 0} → Decides r P → (P → Q) → (Q → P) → Decides r Q
 decides-iff d to of = record { yes = λ e. to (d .yes e); no = λ e x. d .no e (of x) }
-
--- ---- classes
-
-pub class-at : (rep : List ℕ) (c : ℕ) → c ≤ 128 → classAt rep c ≡ getD rep c 0
-class-at rep c h = ap (λ i. getD rep i 0) (omega arith)
 
 -- ---- parts
 
@@ -109,13 +103,6 @@ pair-kind (suc (suc zero)) f s h = refl
 pair-kind (suc (suc (suc zero))) f s h = clash (cc)
 pair-kind (suc (suc (suc (suc k)))) f s h = clash (cc)
 
-pub free-kind : (k f s : ℕ) → cellAt k f s ≡ VA → k ≡ 1
-free-kind zero f s h = clash (cc)
-free-kind (suc zero) f s h = refl
-free-kind (suc (suc zero)) f s h = clash (cc)
-free-kind (suc (suc (suc zero))) f s h = clash (cc)
-free-kind (suc (suc (suc (suc k)))) f s h = clash (cc)
-
 pub zero-kind : (k f s : ℕ) → cellAt k f s ≡ AT 0 → (k ≡ 0) × (f * 256 + s ≡ 0)
 zero-kind zero f s h = (refl, cc)
 zero-kind (suc zero) f s h = clash (cc)
@@ -131,7 +118,7 @@ module _ (k f s x a b : ℕ) where
     where
       only : Composed (cellAt k f s) x a b → f * 256 + s ≡ 0
       only (Composed.had h) = absurd (u h)
-      only (Composed.free h) = clash (sym e ∙ free-kind k f s h)
+      only (Composed.free h) = clash (sym e ∙ var-kind k f s h)
       only (Composed.zero h) = zero-kind k f s h .1
       only (Composed.makes m p q) = absurd (omega (arith, makes-kind k f s m))
 
@@ -140,7 +127,7 @@ module _ (k f s x a b : ℕ) where
 
   pub composed-parts : (x ≡ 1 → ⊥) → (k ≡ 0 → ⊥) → (k ≡ 1 → ⊥) → Composed (cellAt k f s) x a b → (a ≡ 1) × (b ≡ 1)
   composed-parts u v w (Composed.had h) = absurd (u h)
-  composed-parts u v w (Composed.free h) = absurd (w (free-kind k f s h))
+  composed-parts u v w (Composed.free h) = absurd (w (var-kind k f s h))
   composed-parts u v w (Composed.zero h) = absurd (v (zero-kind k f s h .0))
   composed-parts u v w (Composed.makes m p q) = (p, q)
 

@@ -5,20 +5,19 @@ use mathlib.Core.Bool.{Bool, true, false, true≢false}
 use mathlib.Core.List.{List}
 use Prim.Native.Nat.{ℕ, _≤_, _<_}
 use native.Mathlib.Omega.{arith}
-use lib.Dec.{ltb}
+use native.Mathlib.Decide.{decLt}
 use lib.ListN.{getD}
-use borrow.Author.Tests.{ltb-true, ltb-false}
 use Rattle.model.specs.Case.{AT, PR, Table, Run, Part}
-use Rattle.model.specs.Stored.{tableAt}
-use Rattle.model.proofs.Read.{clash}
-use Rattle.theory.specs.Cells.{Rows, Makes, Opening, classAt, On}
+use Rattle.model.proofs.Rows.{no-part}
+use Rattle.theory.specs.Cells.{Makes, Opening, classAt, On}
 use Rattle.theory.specs.Level.{Side, seen, built, Mark}
 use Rattle.theory.specs.Sweep.{Swept}
+use Rattle.theory.proofs.Parts.{opening-part}
 use Rattle.theory.proofs.Sweep.{On as sideOn, mark-exact}
 use Rattle.knowledge.specs.Knowledge.{ClassRow, Marked, Starts, Opened}
 use Rattle.knowledge.specs.Sweeps.{leftPart, rightPart, leftClass, rightClass, Composed, Gives, Newly, Shows, SeenOnly, BuiltOnly, Rising, Falling, Turned, OwnMarks}
 use Rattle.knowledge.proofs.ByKind.{makes-ends, part-ends}
-use Rattle.knowledge.proofs.Grow.{on?}
+use Rattle.theory.proofs.MarkRows.{on?}
 
 -- ---- two sweeps
 
@@ -84,20 +83,7 @@ between-turn x t = record {
 -- ---- marks at which nothing changes
 
 below? : (c n : ℕ) → (c < n) ⊎ (n ≤ c)
-below? c n = go (ltb c n) refl
-  where
-    go : (t : Bool) → ltb c n ≡ t → (c < n) ⊎ (n ≤ c)
-    go true e = inl (ltb-true c n e)
-    go false e = inr (ltb-false c n e)
-
-pub beyond-cell : {n : ℕ} {K F S : List ℕ} → Rows n K F S → (c : ℕ) → n ≤ c → tableAt K F S c ≡ AT 0
-beyond-cell w c h = let (k, f, s) = w .beyond c h in rw (k, f, s)
-
-part-atom : {d : ℕ} → Part (AT 0) d → ⊥
-part-atom h = elim h [ ]
-
-makes-atom : {i j : ℕ} → Makes (AT 0) i j → ⊥
-makes-atom h = elim h [ ]
+below? c n = elim (decLt c n) [ yes h ↦ inl h | no h ↦ inr (omega arith) ]
 
 module _ (T : Table) {n : ℕ} {rep : List ℕ} (w : ClassRow n rep) (beyond : (c : ℕ) → n ≤ c → T c ≡ AT 0) {b₀ : List ℕ} (own : OwnMarks n rep b₀) where
   -- The first mark of a built cell is right.
@@ -109,6 +95,10 @@ module _ (T : Table) {n : ℕ} {rep : List ℕ} (w : ClassRow n rep) (beyond : (
   -- A cell beyond the table's that stands for its class has it.
   own-on : (c : ℕ) → n ≤ c → classAt rep c ≡ c → On b₀ c
   own-on c h s = let e : classAt rep 128 ≡ c = sym (w .beyond c h) ∙ s in subst (On b₀) e (own .own (subst (λ z. n ≤ z) (sym e) h))
+
+  -- It has no part.
+  whole : (c d : ℕ) → n ≤ c → Part (T c) d → ⊥
+  whole c d h q = no-part (subst (λ k. Part k d) (beyond c h) q)
 
   module _ (s b : List ℕ) (kept : (c : ℕ) → On b₀ c → On b c) (still : (c : ℕ) → c < n → (Newly T rep s b c → ⊥) × (Shows T rep s b c → ⊥)) where
     built-on : (c : ℕ) → c < n → classAt rep c ≡ c → Composed (T c) (getD s c 0) (getD b (leftClass T rep c) 0) (getD b (rightClass T rep c) 0) → On b c
@@ -137,11 +127,6 @@ module _ (T : Table) {n : ℕ} {rep : List ℕ} (w : ClassRow n rep) (beyond : (
     opens-on c k d h e (Opening.bodies q) o x =
         subst (λ i. On s (classAt rep i)) (ap (λ z. leftPart z c) q) (made-on c d k h e (subst (λ z. Makes z d k) (sym q) Makes.twos) o x .0)
 
-    no-opening : (c k d : ℕ) → T c ≡ AT 0 → Opening T c k d → ⊥
-    no-opening c k d z (Opening.lefts q) = clash (cc)
-    no-opening c k d z (Opening.rights q) = clash (cc)
-    no-opening c k d z (Opening.bodies q) = clash (cc)
-
     parts-on : (c i j d : ℕ) → c < n → classAt rep c ≡ c → Makes (T c) i j → Part (T c) d → On s c → On b (classAt rep j) → On s (classAt rep d)
     parts-on c i j d h e m q o x =
         let (l, r) = made-on c i j h e m o x in
@@ -155,8 +140,8 @@ module _ (T : Table) {n : ℕ} {rep : List ℕ} (w : ClassRow n rep) (beyond : (
     pub still-swept : (ev : Run) (p : ℕ) (s₀ : List ℕ) → ((c : ℕ) → On s₀ c → On s c) → Starts T rep ev p s₀ → Swept T (classAt rep) ev p (On s) (On b)
     still-swept ev p s₀ from st = record {
       learnt = λ c h. from (classAt rep c) (st .low c h);
-      opens = λ c k d e o x y. elim (below? c n) [ inl h ↦ opens-on c k d h e o x y | inr h ↦ absurd (no-opening c k d (beyond c h) o) ];
-      parts = λ c i j d e m q o x y. elim (below? c n) [ inl h ↦ parts-on c i j d h e m q o y | inr h ↦ absurd (part-atom (subst (λ k. Part k d) (beyond c h) q)) ];
+      opens = λ c k d e o x y. elim (below? c n) [ inl h ↦ opens-on c k d h e o x y | inr h ↦ absurd (whole c d h (opening-part o)) ];
+      parts = λ c i j d e m q o x y. elim (below? c n) [ inl h ↦ parts-on c i j d h e m q o y | inr h ↦ absurd (whole c d h q) ];
       free = λ c e q. elim (below? c n) [ inl h ↦ built-on c h e (Composed.free q) | inr h ↦ kept c (own-on c h e) ];
       zero = λ c e q. elim (below? c n) [ inl h ↦ built-on c h e (Composed.zero q) | inr h ↦ kept c (own-on c h e) ];
       had = λ c e o. elim (below? c n) [ inl h ↦ built-on c h e (Composed.had o) | inr h ↦ kept c (own-on c h e) ];

@@ -7,27 +7,16 @@ use Prim.Native.Nat.{ℕ, zero, suc, _≤_, _<_}
 use native.Mathlib.Omega.{arith}
 use lib.Dec.{eqb}
 use lib.ListN.{length, getD, set, length-set, replicate}
-use lib.Seq.{getD-set-same, getD-set-other, set-getD}
-use borrow.Author.Tests.{eqb-true, eqb-false}
+use lib.Seq.{getD-set-other, set-getD}
+use borrow.Author.Tests.{eqb-true}
+use Rattle.model.proofs.Finite.{eq?}
+use Rattle.model.proofs.Rows.{zeros}
 use Rattle.theory.specs.Cells.{classAt, On}
+use Rattle.theory.proofs.MarkRows.{on?, set-cases, set-on, set-kept}
 use Rattle.knowledge.specs.Knowledge.{ClassRow, Marked, Learns}
 use Rattle.knowledge.specs.Sweeps.{missing, Grown, OwnMarks}
 
 -- ---- one mark
-
-pub on? : (m : List ℕ) (c : ℕ) → On m c ⊎ (On m c → ⊥)
-on? m c = go (eqb (getD m c 0) 1) refl
-  where
-    go : (b : Bool) → eqb (getD m c 0) 1 ≡ b → On m c ⊎ (On m c → ⊥)
-    go true e = inl (eqb-true _ _ e)
-    go false e = inr (eqb-false _ _ e)
-
-pub same? : (a b : ℕ) → (a ≡ b) ⊎ (a ≡ b → ⊥)
-same? a b = go (eqb a b) refl
-  where
-    go : (t : Bool) → eqb a b ≡ t → (a ≡ b) ⊎ (a ≡ b → ⊥)
-    go true e = inl (eqb-true _ _ e)
-    go false e = inr (eqb-false _ _ e)
 
 missing-fewer : (m : List ℕ) (j : ℕ) → j < length m → (On m j → ⊥) → missing (set m j 1) < missing m
 missing-fewer [] j h e = absurd (omega arith)
@@ -44,34 +33,21 @@ missing-down m j h = elim (on? m j) [
   | inr n ↦ omega (arith, missing-fewer m j h n)
 ]
 
-module _ (m : List ℕ) (j : ℕ) (h : j < length m) (i : ℕ) where
-  -- A mark of the row with one more at j is at j, or was there.
-  pub set-cases : On (set m j 1) i → (i ≡ j) ⊎ (On m i)
-  set-cases e = elim (same? i j) [
-    | inl q ↦ inl q
-    | inr n ↦ inr (rw (getD-set-other m j i 1 0 n) at e)
-  ]
-
-  pub set-kept : On m i → On (set m j 1) i
-  set-kept e = elim (same? i j) [
-    | inl q ↦ subst (On (set m j 1)) (sym q) (getD-set-same m j 1 0 h)
-    | inr n ↦ getD-set-other m j i 1 0 n ∙ e
-  ]
-
-  set-bits : getD m i 0 ≤ 1 → getD (set m j 1) i 0 ≤ 1
-  set-bits b = elim (same? i j) [
-    | inl q ↦ subst (λ k. getD (set m j 1) k 0 ≤ 1) (sym q) (omega (arith, getD-set-same m j 1 0 h))
-    | inr n ↦ omega (arith, getD-set-other m j i 1 0 n)
-  ]
-
-pub set-on : (m : List ℕ) (j : ℕ) → j < length m → On (set m j 1) j
-set-on m j h = getD-set-same m j 1 0 h
+set-bits : (m : List ℕ) (j i : ℕ) → j < length m → getD m i 0 ≤ 1 → getD (set m j 1) i 0 ≤ 1
+set-bits m j i h b = elim (eq? i j) [
+  | inl q ↦ subst (λ k. getD (set m j 1) k 0 ≤ 1) (sym q) (omega (arith, set-on m j h))
+  | inr n ↦ omega (arith, getD-set-other m j i 1 0 n)
+]
 
 pub marked-set : {rep m : List ℕ} {j : ℕ} → j < length m → classAt rep j ≡ j → Marked rep m → Marked rep (set m j 1)
 marked-set {rep} {m} {j} h s w = record {
-  bits = λ c. set-bits m j h c (w .bits c);
-  stand = λ c e. elim (set-cases m j h c e) [ inl q ↦ subst (λ k. classAt rep k ≡ k) (sym q) s | inr o ↦ w .stand c o ];
+  bits = λ c. set-bits m j c h (w .bits c);
+  stand = λ c e. elim (set-cases m j c e) [ inl q ↦ subst (λ k. classAt rep k ≡ k) (sym q) s | inr o ↦ w .stand c o ];
 }
+
+-- Each cell is marked or not.
+pub marked? : {rep marks : List ℕ} → Marked rep marks → (c : ℕ) → On marks c ⊎ (getD marks c 0 ≡ 0)
+marked? {rep} {marks} w c = elim (on? marks c) [ inl o ↦ inl o | inr n ↦ inr (omega (arith, w .bits c, n)) ]
 
 -- ---- the row of a sweep
 
@@ -117,11 +93,6 @@ module _ {rep m r : List ℕ} {ch : Bool} (w : Grown rep m r ch) where
 abbrev pub noMarks : List ℕ
 noMarks = replicate 129 0
 
-zeros : (n c : ℕ) → _≡_ {A = ℕ} (getD (replicate n 0) c 0) 0
-zeros zero c = refl
-zeros (suc n) zero = refl
-zeros (suc n) (suc c) = zeros n c
-
 pub none-on : (c : ℕ) → On noMarks c → ⊥
 none-on c e = omega (arith, zeros 129 c, e)
 
@@ -137,7 +108,7 @@ own-one {n} {rep} {z} w e h =
     record {
       marked = marked-set i (ap (classAt rep) e ∙ (w .idem 128 ∙ sym e)) none-marked;
       own = λ g. subst (On (set noMarks z 1)) e (set-on noMarks z i);
-      only = λ c o. elim (set-cases noMarks z i c o) [ inl q ↦ (q ∙ e, omega arith) | inr o′ ↦ absurd (none-on c o′) ];
+      only = λ c o. elim (set-cases noMarks z c o) [ inl q ↦ (q ∙ e, omega arith) | inr o′ ↦ absurd (none-on c o′) ];
     }
 
 -- ---- one learnt cell
@@ -149,5 +120,5 @@ learns {n} {rep} {m} {c} {z} w l k e =
       marked = marked-set i (ap (classAt rep) e ∙ (w .idem c ∙ sym e)) k;
       kept = λ d o. set-kept m z i d o;
       learnt = subst (On (set m z 1)) e (set-on m z i);
-      only = λ d o. elim (set-cases m z i d o) [ inl q ↦ inr (q ∙ e) | inr o′ ↦ inl o′ ];
+      only = λ d o. elim (set-cases m z d o) [ inl q ↦ inr (q ∙ e) | inr o′ ↦ inl o′ ];
     }

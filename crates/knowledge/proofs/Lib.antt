@@ -1,4 +1,5 @@
 pub mod ByKind
+pub mod ClassRows
 pub mod AtCell
 pub mod Grow
 pub mod Sound

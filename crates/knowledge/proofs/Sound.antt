@@ -3,19 +3,21 @@ use mathlib.Core.Path.{_≡_, sym, _∙_, ap, subst}
 use mathlib.Core.Logic.{inl, inr}
 use mathlib.Core.Bool.{Bool, true, false, true≢false}
 use mathlib.Core.List.{List}
-use Prim.Native.Nat.{ℕ, _+_, _≤_, _<_}
+use Prim.Native.Nat.{ℕ, _+_, _≤_}
 use native.Mathlib.Omega.{arith}
-use lib.ListN.{length, getD, set, length-set}
+use lib.ListN.{length, getD, set}
 use borrow.Author.Count.{below-more}
 use Rattle.model.specs.Message.{Two, Pair, Seal}
 use Rattle.model.specs.Case.{Cell, TWO, Table, Run, PR, Part, in-arg, in-right}
+use Rattle.model.proofs.Finite.{eq?}
 use Rattle.theory.specs.Cells.{Makes, Opening, classAt, On}
 use Rattle.theory.specs.Level.{Mark, seen, built}
 use Rattle.theory.proofs.Sweep.{mark-same, mark-rep}
 use Rattle.knowledge.specs.Knowledge.{ClassRow, Marked}
 use Rattle.knowledge.specs.Sweeps.{leftPart, rightPart, leftClass, rightClass, Composed, Gives, Newly, Shows, SeenOnly, BuiltOnly, Rising, Falling}
 use Rattle.knowledge.proofs.ByKind.{makes-ends}
-use Rattle.knowledge.proofs.Grow.{same?, set-cases, grown-none, grown-mark, grown-marks}
+use Rattle.theory.proofs.MarkRows.{set-cases}
+use Rattle.knowledge.proofs.Grow.{grown-none, grown-mark, grown-marks}
 
 -- ---- what one cell adds
 
@@ -81,10 +83,9 @@ module _ (T : Table) {n : ℕ} {rep : List ℕ} (w : ClassRow n rep) (seens m : 
 
     pub rising-mark : c ≤ 128 → Newly T rep seens r c → Rising T rep seens m (set r c 1) true (c + 1)
     rising-mark h y =
-        let i : c < length r = omega (arith, x .grown .long) in
         record {
           grown = grown-mark (x .grown) c h (y .stands) (y .new);
-          sound = λ ev p s b d o. elim (set-cases r c i d o) [
+          sound = λ ev p s b d o. elim (set-cases r c d o) [
             | inl q ↦ subst (λ z. Mark T (classAt rep) ev p built z) (sym q) (newly-mark T w ev p seens r s (x .sound ev p s b) c y)
             | inr o′ ↦ x .sound ev p s b d o′
           ];
@@ -102,7 +103,7 @@ module _ (T : Table) {n : ℕ} {rep : List ℕ} (w : ClassRow n rep) (builts m :
     falling-skip old = record {
       grown = x .grown;
       sound = x .sound;
-      still = λ e d h g. elim (same? d c) [
+      still = λ e d h g. elim (eq? d c) [
         | inl q ↦ subst (λ z. Shows T rep r builts z → ⊥) (sym q) old
         | inr o ↦ x .still e d (omega arith) g
       ];
@@ -112,16 +113,14 @@ module _ (T : Table) {n : ℕ} {rep : List ℕ} (w : ClassRow n rep) (builts m :
     falling-mark a b l t y =
         let lowA : a ≤ 128 = omega (arith, w .low (leftPart (T c) c)) in
         let lowB : b ≤ 128 = omega (arith, w .low (rightPart (T c) c)) in
-        let i : a < length r = omega (arith, x .grown .long) in
-        let j : b < length (set r a 1) = omega (arith, length-set r a 1, x .grown .long) in
         record {
           grown = grown-marks (x .grown) a b lowA lowB (subst (λ z. classAt rep z ≡ z) (sym l) (w .idem (leftPart (T c) c)))
               (subst (λ z. classAt rep z ≡ z) (sym t) (w .idem (rightPart (T c) c))) (λ o o′. y .new (subst (On r) l o) (subst (On r) t o′));
           sound = λ ev p s q d o.
               let both = shows-marks T w ev p r builts (x .sound ev p s q) q c y in
-              elim (set-cases (set r a 1) b j d o) [
+              elim (set-cases (set r a 1) b d o) [
                 | inl e ↦ subst (λ z. Mark T (classAt rep) ev p seen z) (sym (e ∙ t)) (both .1)
-                | inr o′ ↦ elim (set-cases r a i d o′) [
+                | inr o′ ↦ elim (set-cases r a d o′) [
                   | inl e ↦ subst (λ z. Mark T (classAt rep) ev p seen z) (sym (e ∙ l)) (both .0)
                   | inr o″ ↦ x .sound ev p s q d o″
                 ]

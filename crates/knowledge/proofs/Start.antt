@@ -1,22 +1,18 @@
 -- Marks to start from, event by event: none before the first, one more at each LN; and marks that were found may be started from again.
-use mathlib.Core.Path.{_≡_, refl, sym, subst}
+use mathlib.Core.Path.{_≡_, sym, subst}
 use mathlib.Core.Logic.{_⊎_, inl, inr}
 use mathlib.Core.Option.{some}
 use mathlib.Core.List.{List}
-use mathlib.Core.Bool.{Bool, true, false}
-use Prim.Native.Nat.{ℕ, _+_, _<_}
+use Prim.Native.Nat.{ℕ, _+_}
 use native.Mathlib.Omega.{arith}
-use lib.Dec.{ltb}
-use borrow.Author.Tests.{ltb-true}
-use Rattle.model.specs.Case.{Event, LN, Table, Run, Learnt}
-use Rattle.model.specs.Stored.{runAt}
-use Rattle.model.proofs.Read.{clash}
+use Rattle.model.specs.Case.{LN, Table, Run, Learnt}
+use Rattle.model.proofs.Finite.{eq?}
 use Rattle.theory.specs.Cells.{classAt, On}
 use Rattle.theory.specs.Level.{Mark, seen}
 use Rattle.theory.proofs.Sweep.{mark-later, mark-rep}
 use Rattle.knowledge.specs.declared.Marks.{Marks}
 use Rattle.knowledge.specs.Knowledge.{ClassRow, Learns, Starts, Opened}
-use Rattle.knowledge.proofs.Grow.{same?, noMarks, none-on}
+use Rattle.knowledge.proofs.Grow.{noMarks, none-on}
 
 module _ (T : Table) {n : ℕ} {rep : List ℕ} (w : ClassRow n rep) (ev : Run) where
   -- Before the first event nothing is learnt.
@@ -25,7 +21,7 @@ module _ (T : Table) {n : ℕ} {rep : List ℕ} (w : ClassRow n rep) (ev : Run) 
 
   -- What is learnt before p + 1 is learnt before p or at p.
   learnt-next : {p c : ℕ} → Learnt ev (p + 1) c → Learnt ev p c ⊎ (ev p ≡ some (LN c))
-  learnt-next {p} {c} (q, lt, e) = elim (same? q p) [ inl i ↦ inr (subst (λ k. ev k ≡ some (LN c)) i e) | inr o ↦ inl (q, omega arith, e) ]
+  learnt-next {p} {c} (q, lt, e) = elim (eq? q p) [ inl i ↦ inr (subst (λ k. ev k ≡ some (LN c)) i e) | inr o ↦ inl (q, omega arith, e) ]
 
   module _ (p : ℕ) {s : List ℕ} (st : Starts T rep ev p s) where
     later : {c : ℕ} → Mark T (classAt rep) ev p seen c → Mark T (classAt rep) ev (p + 1) seen c
@@ -54,11 +50,3 @@ module _ (T : Table) {n : ℕ} {rep : List ℕ} (w : ClassRow n rep) (ev : Run) 
       low = λ c h. o .seen ev p st c .1 (Mark.learnt h);
       high = λ c x. o .seen ev p st c .0 (subst (On (r .seen)) (sym (o .seen-marked .stand c x)) x);
     }
-
--- Every event of a run of m events stands before position m.
-pub run-late : (m : ℕ) (kinds cells : List ℕ) (q : ℕ) {e : Event} → runAt m kinds cells q ≡ some e → q < m
-run-late m kinds cells q {e} i = go (ltb q m) refl
-  where
-    go : (t : Bool) → ltb q m ≡ t → q < m
-    go true z = ltb-true q m z
-    go false z = clash (cc)

@@ -1,10 +1,10 @@
 -- What he can build from all that is learnt, for a table without variables: what build marks and reducing stand on.
--- EventRows: what the rows of a run keep; LearntAll: the marks of all learnt cells; HeardOpened: the classes and marks that are found; FileKnown: the same of a file.
+-- LearntAll: the marks of all learnt cells; HeardOpened: the classes and marks that are found; FileKnown: the same of a file.
 use mathlib.Core.Path.{_≡_}
 use mathlib.Core.Logic.{_↔_}
 use mathlib.Core.List.{List}
-use Prim.Native.Nat.{ℕ, _≤_, _<_}
-use lib.ListN.{length, getD}
+use Prim.Native.Nat.{ℕ}
+use lib.ListN.{length}
 use Rattle.model.specs.Message.{Message, Built}
 use Rattle.model.specs.Case.{VA, Table, Run, File, Heard, Ground, tableOf}
 use Rattle.model.specs.Replies.{messagesOf, HeardOf}
@@ -12,11 +12,6 @@ use Rattle.theory.specs.Cells.{classAt, On}
 use Rattle.classes.specs.Twins.{Start}
 use Rattle.knowledge.specs.declared.heard.Knowledge.{Knowledge}
 use Rattle.knowledge.specs.Knowledge.{Marked, Starts}
-
--- What the row of the events' cells keeps, of a run of m events over n cells: there are few, and each cell is one of the table.
-pub record EventRows (n m : ℕ) (cells : List ℕ) : Type 0 where
-  pub few : m ≤ 128
-  pub inside : (p : ℕ) → p < m → getD cells p 0 < n
 
 -- The marks r hold what is learnt before position p, and only what is seen there.
 pub record LearntAll (rep : List ℕ) (ev : Run) (p : ℕ) (r : List ℕ) : Type 0 where

@@ -1,9 +1,9 @@
 // What he can build from all that is learnt, for a table without variables: the classes of equal messages, and which of them are seen and built.
 ghost use Prim.Native.Nat.{_≤_};
 ghost use Rattle.model.specs.Stored.{tableAt, runAt};
-ghost use Rattle.theory.specs.Cells.{Rows};
+ghost use Rattle.theory.specs.Cells.{Rows, EventRows};
 ghost use Rattle.knowledge.specs.Knowledge.{ClassRow};
-ghost use Rattle.knowledge.specs.Heard.{EventRows, LearntAll, HeardOpened};
+ghost use Rattle.knowledge.specs.Heard.{LearntAll, HeardOpened};
 
 // The class array of a table, and the marks, 0 or 1, of the classes that are seen and of those that can be built.
 pub struct Knowledge {
@@ -22,7 +22,7 @@ fn learn_all<'a>(
 ) -> [u8; 129]
     requires { ⌜ n ≤ 128 ⌝ }
     requires { ⌜ ClassRow n (now rep) ⌝ }
-    requires { ⌜ EventRows n count (now aims) ⌝ }
+    requires { ⌜ EventRows n (now aims) count ⌝ }
     ensures { λ r. ⌜ LearntAll (now (rep .entry)) (runAt count (now (asks .entry)) (now (aims .entry))) count r ⌝ }
 {
     let mut seen = [0; 129];
@@ -48,7 +48,7 @@ pub fn open_heard<'a>(
     count: usize,
 ) -> Knowledge
     requires { ⌜ Rows n (now kind) (now first) (now second) ⌝ }
-    requires { ⌜ EventRows n count (now aims) ⌝ }
+    requires { ⌜ EventRows n (now aims) count ⌝ }
     ensures { λ r. ⌜ HeardOpened n (tableAt (now (kind .entry)) (now (first .entry)) (now (second .entry))) (runAt count (now (asks .entry)) (now (aims .entry))) r ⌝ }
 {
     let rep = classes::start(kind, first, second, n);

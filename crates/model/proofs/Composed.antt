@@ -41,10 +41,6 @@ pub comp-seal : {K : Message → Type 0} {b k : Message} → Comp K (seal b k) �
 comp-seal (Comp.base h) = inl h
 comp-seal (Comp.makes Made.seals p q) = inr (p, q)
 
-pub comp-app : {K : Message → Type 0} {f : ℕ} {a : Message} → Comp K (app f a) → K (app f a) ⊎ Comp K a
-comp-app (Comp.base h) = inl h
-comp-app (Comp.makes Made.apps p q) = inr p
-
 -- `Shut K x`: nothing is taken from x: it is an atom, an application, or a seal under a name that is neither his own nor known.
 pub data Shut (K : Message → Type 0) : Message → Type 0 where
   name : {n : ℕ} → Shut K (atom n)

@@ -12,7 +12,7 @@ use Rattle.model.specs.Values.{RightValues, Entry, RightList, Ends, Equa
 use Rattle.model.specs.Reduce.{Bare, Rest, Inside, whole, deeper}
 use Rattle.model.specs.Format.{Kind, mark, readFile, readFrom, check, checkKind, kindOf, anyOf, variables, Reading, accepted, refused}
 use Rattle.model.proofs.Steps.{built-more, size, held-size}
-use Rattle.model.proofs.Read.{clash, part-held, right-values}
+use Rattle.model.proofs.Read.{clash, part-held, list-values}
 use Rattle.model.specs.Replies.{RightListed, NoneRight, EquatedBy, NeverEqual}
 use Rattle.model.proofs.Claims.{_gives_, runYes, runNo, equateYes, equateNo, Holds, C, D, R, bytesOf}
 use Rattle.model.proofs.Starred.{read-as, its}
@@ -147,7 +147,7 @@ no-right-round T ev L v e p (m, reads, equal, right) = no-message-in-itself (par
 
 -- A right list and "no" exclude one another.
 pub no-list-and-none : (T : Table) (ev : Run) (L : ℕ → ℕ) → Lower T → RightList T ev L → ((ρ : ℕ → Message) → RightValues T ev ρ → ⊥) → ⊥
-no-list-and-none T ev L low (m, reads, equal, right) never = never m (right-values T ev low m reads right)
+no-list-and-none T ev L low list never = let (ρ, right) = list-values T ev L low list in never ρ right
 
 -- ---- files
 

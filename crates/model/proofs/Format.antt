@@ -1,5 +1,5 @@
 -- Laws of reading a file: what a sound record passed, one step of the reader, and what each step keeps the whole reading keeps.
--- Sound, check-sound, sound-check: the tests; read-fault, read-cell, read-event, read-end: the step; read-keeps: induction over the records.
+-- Sound, check-sound, sound-check: the tests; read-cell, read-event, read-end: the step; read-keeps: induction over the records.
 use mathlib.Core.Path.{_≡_, refl, _∙_, ap, subst}
 use mathlib.Core.Bool.{Bool, true, false, cond}
 use mathlib.Core.List.{List, [], _∷_, _++_}
@@ -79,12 +79,8 @@ added f (cell c) = record { cells = f .cells ++ (c ∷ []); events = f .events }
 added f (event e) = record { cells = f .cells; events = f .events ++ (e ∷ []) }
 added f end = f
 
--- What the reader does at a fault, at a cell, at an event and at EN.
+-- What the reader does at a sound record: at a cell, at an event and at EN.
 module _ (n : ℕ) (rest : List ℕ) (at : ℕ) (f : File) where
-  pub read-fault : (m : ℕ) → check rest f ≡ fault m → readFrom (suc n) rest at f ≡ refused m at
-  unfolding readFrom
-  read-fault m e = ap (after (readFrom n) rest at f) e
-
   pub read-sound : (k : Kind) → check rest f ≡ sound k → readFrom (suc n) rest at f ≡ behind (readFrom n) rest at f (2 + width k) (recordAt rest k)
   unfolding readFrom
   read-sound k e = ap (after (readFrom n) rest at f) e

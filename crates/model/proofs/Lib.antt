@@ -8,6 +8,7 @@ pub mod Held
 pub mod Format
 pub mod Accepted
 pub mod Rows
+pub mod Stored
 pub mod Fuel
 pub mod Prefix
 pub mod Places

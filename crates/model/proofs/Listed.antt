@@ -41,12 +41,6 @@ module _ {A : Type 0} where
   elem-append (y ∷ l) m zero x e = e
   elem-append (y ∷ l) m (suc i) x e = elem-append l m i x e
 
-  -- Where an element stands, and what stands there.
-  pub elem-below : (l : List A) (i : ℕ) (x : A) → getElem? l i ≡ some x → i < length l
-  elem-below [] i x e = clash (cc)
-  elem-below (y ∷ l) zero x e = omega arith
-  elem-below (y ∷ l) (suc i) x e = let h = elem-below l i x e in omega arith
-
   pub elem-getD : (l : List A) (i : ℕ) (d : A) → i < length l → getElem? l i ≡ some (getD l i d)
   elem-getD [] i d h = absurd (omega arith)
   elem-getD (y ∷ l) zero d h = refl

@@ -1,5 +1,5 @@
 -- The number of a file's refusal is 1 to 7, and its place is within the file, so at most 899.
-use mathlib.Core.Path.{_≡_, refl, sym, _∙_, ap}
+use mathlib.Core.Path.{_≡_, refl, sym, _∙_}
 use mathlib.Core.Bool.{Bool, true, false, cond}
 use mathlib.Core.List.{List}
 use mathlib.Core.Option.{Option, some, none}
@@ -10,7 +10,7 @@ use lib.Dec.{ltb}
 use lib.ListN.{length, take, drop, length-drop, length-take}
 use Rattle.model.specs.Case.{File}
 use Rattle.model.specs.Format.{Kind, width, Record, cell, event, end, recordAt, late, tooMany, outside, loose}
-use Rattle.model.specs.Format.{Checked, fault, sound, checkKind, kindOf, check, Reading, refused, accepted, ended, behind, after, readFrom, readFile}
+use Rattle.model.specs.Format.{Checked, fault, sound, checkKind, kindOf, check, Reading, refused, accepted, behind, after, readFrom, readFile}
 use Rattle.model.proofs.Format.{check-sound, added}
 use Rattle.model.proofs.Prefix.{readFile-prefix}
 use Rattle.model.proofs.Read.{clash}

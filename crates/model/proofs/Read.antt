@@ -5,7 +5,7 @@ use Prim.Native.Nat.{ℕ, zero, suc, _<_}
 use native.Mathlib.Omega.{arith}
 use Rattle.model.specs.Message.{Message, atom, one, two, Held}
 use Rattle.model.specs.Case.{Cell, AT, VA, ONE, TWO, Table, Run, look, Reads, shown, message, Part, in-arg, in-left, in-right, Lower, Right}
-use Rattle.model.specs.Values.{RightValues}
+use Rattle.model.specs.Values.{RightValues, RightList}
 
 -- Strong induction.
 below : (P : ℕ → Type 0) → ((c : ℕ) → ((d : ℕ) → d < c → P d) → P c) → (n c : ℕ) → c < n → P c
@@ -16,6 +16,13 @@ pub strong : (P : ℕ → Type 0) → ((c : ℕ) → ((d : ℕ) → d < c → P 
 strong P step c = below P step (suc c) c (omega arith)
 
 -- What a cell shows depends on the messages of its parts.
+-- What a cell that is no variable shows does not depend on a variable's value.
+pub look-solid : (v w : Message) (m : ℕ → Message) (k : Cell) → (k ≡ VA → ⊥) → look v m k ≡ look w m k
+look-solid v w m (AT n) s = refl
+look-solid v w m VA s = absurd (s refl)
+look-solid v w m (ONE g a) s = refl
+look-solid v w m (TWO h l r) s = refl
+
 pub look-same : (v : Message) (m m′ : ℕ → Message) (k : Cell) → ((d : ℕ) → Part k d → m d ≡ m′ d) → look v m k ≡ look v m′ k
 look-same v m m′ (AT n) h = refl
 look-same v m m′ VA h = refl
@@ -36,6 +43,16 @@ unfolding shown
 message-reads T ρ low c =
     look-same (ρ c) (shown T ρ c) (message T ρ) (T c)
     (λ d i. let l = low c d i in shown-enough T ρ low c (suc d) d (omega arith) (omega arith))
+
+-- What values make the cells show is a reading of its own.
+pub message-self : (T : Table) (ρ : ℕ → Message) → Lower T → Reads T (message T ρ) (message T ρ)
+message-self T ρ low c = self (T c) (message-reads T ρ low c)
+  where
+    self : (k : Cell) → message T ρ c ≡ look (ρ c) (message T ρ) k → message T ρ c ≡ look (message T ρ c) (message T ρ) k
+    self (AT n) e = e
+    self VA e = refl
+    self (ONE g a) e = e
+    self (TWO h l r) e = e
 
 -- Two readings under the same values are the same.
 pub reads-one : (T : Table) (ρ m m′ : ℕ → Message) → Lower T → Reads T ρ m → Reads T ρ m′ → (c : ℕ) → m c ≡ m′ c
@@ -78,10 +95,8 @@ pub right-values : (T : Table) (ev : Run) → Lower T → (m : ℕ → Message) 
 right-values T ev low m mr = subst (Right ev) (fun-ext (reads-one T m m (message T m) low mr (message-reads T m low)))
 
 pub values-right : (T : Table) (ev : Run) → Lower T → (ρ : ℕ → Message) → RightValues T ev ρ → (m : ℕ → Message) × Reads T m m × Right ev m
-values-right T ev low ρ r = (message T ρ, λ c. self c (T c) (message-reads T ρ low c), r)
-  where
-    self : (c : ℕ) (k : Cell) → message T ρ c ≡ look (ρ c) (message T ρ) k → message T ρ c ≡ look (message T ρ c) (message T ρ) k
-    self c (AT n) e = e
-    self c VA e = refl
-    self c (ONE g a) e = e
-    self c (TWO h l r) e = e
+values-right T ev low ρ r = (message T ρ, message-self T ρ low, r)
+
+-- A right list comes with right values.
+pub list-values : (T : Table) (ev : Run) (L : ℕ → ℕ) → Lower T → RightList T ev L → (ρ : ℕ → Message) × RightValues T ev ρ
+list-values T ev L low (m, reads, equal, right) = (m, right-values T ev low m reads right)

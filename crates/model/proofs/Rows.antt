@@ -17,7 +17,7 @@ use Rattle.model.specs.Stored.{cellAt, tableAt, first, second, eventAt, 
 use Rattle.model.proofs.Listed.{elem-getD}
 use Rattle.model.proofs.Accepted.{Small}
 
-zeros : (k c : ℕ) → _≡_ {A = ℕ} (getD (replicate k 0) c 0) 0
+pub zeros : (k c : ℕ) → _≡_ {A = ℕ} (getD (replicate k 0) c 0) 0
 zeros zero c = refl
 zeros (suc k) zero = refl
 zeros (suc k) (suc c) = zeros k c
@@ -82,6 +82,9 @@ run-rows events p = go (ltb p (length events)) refl
 
 -- ---- the bytes of an accepted file's cells
 
+pub no-part : {n d : ℕ} → Part (AT n) d → ⊥
+no-part p = elim p [ ]
+
 module _ (cells : List Cell) where
   -- Past the cells stands his own name.
   pub past-cells : (c : ℕ) → length cells ≤ c → tableOf cells c ≡ AT 0
@@ -93,9 +96,6 @@ module _ (cells : List Cell) where
     | yes h ↦ (let l = low c d p in omega arith)
     | no h ↦ absurd (no-part (subst (λ k. Part k d) (past-cells c (omega arith)) p))
   ]
-    where
-      no-part : {n d : ℕ} → Part (AT n) d → ⊥
-      no-part p = elim p [ ]
 
 -- The bytes of a cell fit, if its name, its function and its parts do.
 fields-fit : (k : Cell) → ((n : ℕ) → k ≡ AT n → n < 65536) → ((g a : ℕ) → k ≡ AP g a → g < 256) → ((d : ℕ) → Part k d → d < 256) → (first k < 256) × (second k < 256)

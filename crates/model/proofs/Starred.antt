@@ -5,7 +5,7 @@ use mathlib.Core.List.{List, [], _∷_, List·Memᴰ, List·Memᴰ·head, List·
 use mathlib.Core.Option.{some}
 use Prim.Native.Nat.{ℕ, zero, suc, _<_}
 use borrow.Author.Tests.{ne-eqb}
-use lib.ListN.{length, getD}
+use lib.ListN.{getD}
 use lib.Dec.{lit<}
 use native.Mathlib.Omega.{arith}
 use Rattle.model.specs.Message.{Message, atom, one, two, pair, seal, Made, Opens, Built, Held}
@@ -66,10 +66,6 @@ contents (accepted f) = f
 
 abbrev pub its : Letter → File
 its x = contents (readAs x)
-
--- E has 26 bytes.
-pub e-length : length (bytesOf E) ≡ 26
-e-length = refl
 
 -- ---- run: yes
 

@@ -3,7 +3,7 @@ use mathlib.Core.Path.{_≡_, refl}
 use mathlib.Core.Logic.{_⊎_, inl, inr}
 use Prim.Native.Nat.{ℕ, _+_, _<_}
 use native.Mathlib.Omega.{arith}
-use Rattle.model.specs.Message.{One, App, Two, Pair, Seal, Message, atom, one, two, Made, pairs, seals, apps, Opens, lefts, rights, bodies, Built, Held, arg, left, right}
+use Rattle.model.specs.Message.{App, Pair, Seal, Message, atom, one, two, Made, pairs, seals, apps, Opens, lefts, rights, bodies, Built, Held, arg, left, right}
 
 -- Of the steps.
 pub made? : (x : Message) → ((a : Message) × (b : Message) × Made x a b) ⊎ ((a b : Message) → Made x a b → ⊥)

@@ -1,5 +1,5 @@
 -- What each reply says of an accepted file (document 01, "The five questions"), and how a reply lies in a buffer.
--- RightListed, NoneRight: run and list check; EquatedBy, NeverEqual: equating; MarkList: build marks; ReducedTo: reducing; laid: the buffer.
+-- RightListed, NoneRight: run and list check; EquatedBy, NeverEqual: equating; MarkList: build marks; ReducedTo: reducing; laid, SameButList: the buffer.
 use mathlib.Core.Path.{_≡_}
 use mathlib.Core.List.{List, _++_, map}
 use mathlib.Core.Option.{none}
@@ -9,7 +9,7 @@ use Rattle.model.specs.Message.{Message, atom, Built}
 use Rattle.model.specs.Case.{VA, LN, File, tableOf, runOf, message, Heard}
 use Rattle.model.specs.Values.{RightValues, cellOf, Form, RightList, Equates}
 use Rattle.model.specs.Reduce.{Reduces}
-use Rattle.model.specs.Format.{firstVariable, fileBytes}
+use Rattle.model.specs.Format.{readFile, accepted, firstVariable, fileBytes}
 
 -- The list has the form of a value list, and is right.
 abbrev pub RightListed : File → List ℕ → Type 0
@@ -56,3 +56,9 @@ ReducedTo f bytes =
 -- A buffer with the reply at its front; no byte beyond it is touched.
 abbrev pub laid : List ℕ → List ℕ → List ℕ
 laid reply before = reply ++ drop (length reply) before
+
+-- Two buffers after the reply to a file are equal; or each has at its front a list that answers, and the bytes beyond it are equal.
+pub data SameButList (Answers : File → List ℕ → Type 0) (file before after after′ : List ℕ) : Type 0 where
+  same : after ≡ after′ → SameButList Answers file before after after′
+  lists : (f : File) (list list′ : List ℕ) → readFile file ≡ accepted f → Answers f list → Answers f list′ → after ≡ laid list before → after′ ≡ laid list′ before →
+      drop (length (f .cells)) after ≡ drop (length (f .cells)) after′ → SameButList Answers file before after after′

@@ -7,7 +7,7 @@ use Prim.Native.Nat.{ℕ, zero, suc, _+_, _-_, _*_, _/_, _%_}
 use lib.Dec.{ltb}
 use lib.ListN.{length, getD, replicate}
 use Rattle.model.specs.Case.{Cell, AT, VA, ONE, TWO, PR, SE, AP, Event, MK, LN, Table, Run}
-use Rattle.model.specs.Reduce.{kind, one-field}
+use Rattle.model.specs.Reduce.{one-field}
 
 -- The cell of a kind, 0 to 4, with the field bytes a and b.
 abbrev pub cellAt : ℕ → ℕ → ℕ → Cell

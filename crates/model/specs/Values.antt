@@ -8,7 +8,7 @@ use Prim.Native.Nat.{ℕ, _<_}
 use lib.Dec.{eqb}
 use lib.ListN.{length, getD}
 use Rattle.model.specs.Message.{Message}
-use Rattle.model.specs.Case.{Cell, VA, Table, Run, Reads, message, Part, Right}
+use Rattle.model.specs.Case.{VA, Table, Run, Reads, message, Part, Right}
 
 -- Values ρ of the variables are right.
 abbrev pub RightValues : Table → Run → (ℕ → Message) → Type 0

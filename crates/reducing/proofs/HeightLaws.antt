@@ -4,7 +4,7 @@ use mathlib.Core.List.{List}
 use Prim.Native.Nat.{ℕ, zero, suc, _+_, _≤_, _<_, max}
 use native.Mathlib.Omega.{arith}
 use native.Mathlib.Decide.{ℕ-discrete, decLt}
-use lib.ListN.{length, getD, set, length-set, length-replicate}
+use lib.ListN.{length, getD, set, length-set, length-replicate, replicate}
 use lib.Seq.{getD-set-same, getD-set-other}
 use Rattle.model.specs.Message.{Message, atom}
 use Rattle.model.specs.Case.{Cell, AT, VA, ONE, TWO, Table, Part, in-arg, in-left, in-right, look, Ground}
@@ -12,7 +12,7 @@ use Rattle.model.specs.Reduce.{height}
 use Rattle.model.specs.Stored.{cellAt, tableAt}
 use Rattle.theory.specs.Cells.{Rows}
 use Rattle.reducing.specs.Bare.{heightAt, Heights}
-use Rattle.reducing.proofs.MarkLaws.{zeros, getD-zeros}
+use Rattle.model.proofs.Rows.{zeros}
 
 -- ---- by kind and fields
 module _ (high : ℕ → ℕ) where
@@ -63,11 +63,11 @@ pub record Climbed (T : Table) (i : ℕ) (high : List ℕ) : Type 0 where
   pub later : (c : ℕ) → i ≤ c → getD high c 0 ≡ 0
   pub exact : (m : ℕ → Message) → Ground T m → (c : ℕ) → c < i → getD high c 0 ≡ height (m c)
 
-pub climbed-start : (T : Table) → Climbed T 0 (zeros 129)
+pub climbed-start : (T : Table) → Climbed T 0 (replicate 129 0)
 climbed-start T = record {
   size = length-replicate {A = ℕ} 129 0;
-  low = λ c. (let z = getD-zeros 129 c in omega arith);
-  later = λ c h. getD-zeros 129 c;
+  low = λ c. (let z = zeros 129 c in omega arith);
+  later = λ c h. zeros 129 c;
   exact = λ m r c h. absurd (omega arith);
 }
 

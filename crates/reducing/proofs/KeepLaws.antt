@@ -9,15 +9,13 @@ use lib.ListN.{length, set, length-set}
 use Rattle.model.specs.Message.{One, App, Two}
 use Rattle.model.specs.Case.{Cell, AT, VA, ONE, TWO, Table, Part, in-arg, in-left, in-right}
 use Rattle.model.specs.Stored.{cellAt, tableAt}
+use Rattle.model.proofs.Rows.{no-part}
 use Rattle.theory.specs.Cells.{classAt, On}
+use Rattle.theory.proofs.MarkRows.{on?, set-on, set-kept, set-cases}
 use Rattle.reducing.specs.Given.{Given}
 use Rattle.reducing.specs.Bare.{Adds, Kept, itself, part, Keeps}
-use Rattle.reducing.proofs.MarkLaws.{on-new, on-stays, on-cases, on?}
 
 -- ---- the parts of a cell
-no-part : {n d : ℕ} → Part (AT n) d → ⊥
-no-part h = elim h [ ]
-
 no-part-variable : {d : ℕ} → Part VA d → ⊥
 no-part-variable h = elim h [ ]
 
@@ -42,9 +40,9 @@ module _ (rep marks : List ℕ) (size : length marks ≡ 129) where
       let lt : b < length marks = omega arith in
       record {
         size = length-set marks b 1 ∙ size;
-        stays = λ c o. on-stays marks b c lt o;
-        parts = λ d p. subst (On (set marks b 1)) (e ∙ subst (λ y. classAt rep y ≡ classAt rep d) (part-one p) refl) (on-new marks b lt);
-        only = λ c n o. elim (on-cases marks b c o) [ inl i ↦ (y, in-arg, i ∙ e) | inr o′ ↦ absurd (n o′) ];
+        stays = λ c o. set-kept marks b lt c o;
+        parts = λ d p. subst (On (set marks b 1)) (e ∙ subst (λ y. classAt rep y ≡ classAt rep d) (part-one p) refl) (set-on marks b lt);
+        only = λ c n o. elim (set-cases marks b c o) [ inl i ↦ (y, in-arg, i ∙ e) | inr o′ ↦ absurd (n o′) ];
       }
 
   pub adds-app : (k x y b : ℕ) → 4 ≤ k → b ≡ classAt rep y → b ≤ 128 → Adds rep marks (cellAt k x y) (set marks b 1)
@@ -62,14 +60,14 @@ module _ (rep marks : List ℕ) (size : length marks ≡ 129) where
       let lt′ : a < length one = omega arith in
       record {
         size = length-set one a 1 ∙ s;
-        stays = λ c o. on-stays one a c lt′ (on-stays marks b c lt o);
+        stays = λ c o. set-kept one a lt′ c (set-kept marks b lt c o);
         parts = λ d p. elim (part-two p) [
-          | inl i ↦ subst (λ d. On (set one a 1) (classAt rep d)) (sym i) (subst (On (set one a 1)) f (on-new one a lt′))
-          | inr i ↦ subst (λ d. On (set one a 1) (classAt rep d)) (sym i) (subst (On (set one a 1)) e (on-stays one a b lt′ (on-new marks b lt)))
+          | inl i ↦ subst (λ d. On (set one a 1) (classAt rep d)) (sym i) (subst (On (set one a 1)) f (set-on one a lt′))
+          | inr i ↦ subst (λ d. On (set one a 1) (classAt rep d)) (sym i) (subst (On (set one a 1)) e (set-kept one a lt′ b (set-on marks b lt)))
         ];
-        only = λ c n o. elim (on-cases one a c o) [
+        only = λ c n o. elim (set-cases one a c o) [
           | inl i ↦ (x, in-left, i ∙ f)
-          | inr o′ ↦ elim (on-cases marks b c o′) [ inl i ↦ (y, in-right, i ∙ e) | inr o″ ↦ absurd (n o″) ]
+          | inr o′ ↦ elim (set-cases marks b c o′) [ inl i ↦ (y, in-right, i ∙ e) | inr o″ ↦ absurd (n o″) ]
         ];
       }
 

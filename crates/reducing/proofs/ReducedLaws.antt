@@ -17,9 +17,8 @@ use Rattle.model.proofs.Steps.{made-one, made-atom}
 use Rattle.model.proofs.Read.{clash, part-held}
 use Rattle.theory.specs.Cells.{classAt, On}
 use Rattle.theory.specs.Marks.{Marks}
-use Rattle.theory.proofs.Parts.{keys, look-made}
+use Rattle.theory.proofs.Parts.{keys, look-made, held-look, inside-part}
 use Rattle.theory.proofs.Bare.{rest-shown, reduced-built}
-use Rattle.theory.proofs.Exists.{inside-part, held-look}
 use Rattle.theory.proofs.Reduce.{lists-same}
 use Rattle.reducing.specs.Given.{Given, Exact, Shown}
 use Rattle.reducing.specs.Bare.{Idle, Bares, Kept, itself, part, Keeps}

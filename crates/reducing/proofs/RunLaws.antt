@@ -11,7 +11,7 @@ use Rattle.model.specs.Stored.{tableAt}
 use Rattle.theory.specs.Cells.{Rows, classAt, On}
 use Rattle.knowledge.specs.declared.heard.Knowledge.{Knowledge}
 use Rattle.knowledge.specs.Heard.{HeardOpened}
-use Rattle.knowledge.proofs.HeardLaws.{start-row}
+use Rattle.knowledge.proofs.ClassRows.{kept-row}
 use Rattle.reducing.specs.Given.{Solid, Given}
 use Rattle.reducing.specs.declared.Plan.{Plan}
 use Rattle.reducing.specs.Plan.{Plans, PlansRun}
@@ -29,7 +29,7 @@ module _ (n : ℕ) (kinds firsts seconds : List ℕ) (w : Rows n kinds firsts se
   low c = elim (decLt c 129) [
     | yes lt ↦ (
         let z : min c 128 ≡ c = omega arith in
-        subst (λ i. getD (k .rep) i 0 ≤ 128) z (start-row n kinds firsts seconds w (k .rep) (h .classes) .low c))
+        subst (λ i. getD (k .rep) i 0 ≤ 128) z (kept-row w (h .classes .solved .kept) .low c))
     | no ge ↦ (
         let s = h .classes .solved .kept .long in
         let z : getD (k .rep) c 0 ≡ 0 = List·getD-eq-default (k .rep) 0 {n = c} (omega arith) in omega arith)

@@ -13,8 +13,7 @@ ghost use Prim.Native.Nat.{_+_, _*_, _≤_};
 ghost use lib.ListN.{length, drop};
 ghost use Rattle.model.specs.Format.{fileBytes};
 ghost use Rattle.model.specs.Stored.{tableAt, runAt};
-ghost use Rattle.theory.specs.Cells.{Rows};
-ghost use Rattle.knowledge.specs.Heard.{EventRows};
+ghost use Rattle.theory.specs.Cells.{Rows, EventRows};
 ghost use Rattle.reducing.specs.Given.{Given, Solid};
 ghost use Rattle.reducing.specs.Plan.{planned, Sized, Plans, PlansRun};
 ghost use Rattle.reducing.specs.Promise.{ReducePromise};
@@ -69,7 +68,7 @@ fn plan_run<'a>(
 ) -> Plan
     requires { ⌜ Rows n (now kind) (now first) (now second) ⌝ }
     requires { ⌜ Solid (now kind) ⌝ }
-    requires { ⌜ EventRows n count (now aims) ⌝ }
+    requires { ⌜ EventRows n (now aims) count ⌝ }
     ensures sized { λ r. ⌜ Sized r ⌝ }
     ensures reduced { λ r. ⌜ PlansRun (tableAt (now (kind .entry)) (now (first .entry)) (now (second .entry))) (runAt count (now (asks .entry)) (now (aims .entry))) r ⌝ }
 {

@@ -1,45 +1,33 @@
 -- From what is read of the bytes and the reply on the stored table to the promise; and that the promise settles the reply.
-use mathlib.Core.Path.{_≡_, refl, sym, _∙_, ap, subst, fun-ext}
+use mathlib.Core.Path.{_≡_, refl, sym, _∙_, ap, subst}
 use mathlib.Core.Bool.{true, false}
 use mathlib.Core.List.{List, _++_, append-assoc}
 use mathlib.Core.Logic.{_⊎_, inl, inr}
-use mathlib.Core.Option.{some}
 use Prim.Native.Nat.{ℕ, suc, _+_, _≤_, _<_}
 use native.Mathlib.Decide.{decLt}
 use native.Mathlib.Numerals.{add-one}
 use native.Mathlib.Omega.{arith}
 use lib.ListN.{length, getD, take, drop, set}
-use lib.Seq.{drop-at, take-suc, drop-cons, set-at, length-take-le}
-use Rattle.model.specs.Message.{Message}
-use Rattle.model.specs.Case.{File, MK, WellFormed, tableOf, runOf}
+use lib.Seq.{take-suc, drop-cons, set-at, length-take-le}
+use Rattle.model.specs.Case.{Table, Run, File, WellFormed, tableOf, runOf}
 use Rattle.model.specs.Format.{readFile, Reading, refused, accepted}
-use Rattle.model.specs.Stored.{tableAt, runAt, aim, asks, row}
-use Rattle.model.specs.Replies.{RightListed, NoneRight, laid}
-use Rattle.model.proofs.Accepted.{Bytes, accepted-file}
-use Rattle.model.proofs.Controls.{no-list-and-none}
-use Rattle.model.proofs.Listed.{elem-getD}
-use Rattle.model.proofs.Read.{clash}
-use Rattle.model.proofs.Rows.{table-rows, run-rows, row-at}
-use Rattle.theory.specs.Cells.{Rows}
-use Rattle.theory.proofs.Rows.{accepted-rows}
-use Rattle.wants.specs.Starts.{CellsBelow}
+use Rattle.model.specs.Stored.{tableAt, runAt}
+use Rattle.model.specs.Replies.{RightListed, NoneRight, laid, SameButList, same, lists}
+use Rattle.model.proofs.Accepted.{accepted-file}
+use Rattle.model.proofs.Read.{clash, list-values}
+use Rattle.model.proofs.Stored.{laid-beyond}
 use Rattle.solving.specs.declared.search.Solution.{Solution}
 use Rattle.solving.specs.Searches.{Solves}
 use Rattle.casefile.specs.declared.Case.{Case}
-use Rattle.casefile.specs.declared.cells.Table.{Table}
-use Rattle.casefile.specs.declared.events.Events.{Events}
-use Rattle.casefile.specs.declared.events.Verdict.the-variants as verdict
-use Rattle.casefile.specs.Cells.{stored}
-use Rattle.casefile.specs.Events.{storedEvents}
-use Rattle.casefile.specs.Case.{caseOf}
+use Rattle.casefile.proofs.CaseFile.{CaseFile, case-count, case-table, case-run}
 use Rattle.running.specs.declared.Solved.{Solved}
 use Rattle.running.specs.declared.Solved.the-variants.{Refused, No, Yes}
 use Rattle.running.specs.Cells.{CellsRun}
-use Rattle.running.specs.Promise.{Answered, RunPromise, SameButList, same, lists}
+use Rattle.running.specs.Promise.{Answered, RunPromise}
 
 -- ---- the replies on a stored table
 
-module _ (n : ℕ) (T : ℕ → Rattle.model.specs.Case.Cell) (ev : Rattle.model.specs.Case.Run) (before : List ℕ) where
+module _ (n : ℕ) (T : Table) (ev : Run) (before : List ℕ) where
   pub reply-short : length before < n → CellsRun n T ev before (Refused 9 n) before
   reply-short s = record { short = λ _. (refl, refl); replied = λ r. absurd (omega arith); no = λ r. absurd (omega arith); yes = λ r. absurd (omega arith) }
 
@@ -59,53 +47,20 @@ laid-next list before i h h′ =
 pub laid-all : (list before : List ℕ) (n : ℕ) → n ≤ length list → take n list ++ drop n before ≡ laid (take n list) before
 laid-all list before n h = ap (λ (k : ℕ). take n list ++ drop k before) (sym (length-take-le n list h))
 
--- ---- what was read
+-- ---- the reply on the rows that were read, said of the file's cells
 
-pub case-refused : (x : Reading) (r : Case) → r ≡ caseOf x → (number place : ℕ) → r .verdict ≡ verdict.Refused number place → x ≡ refused number place
-case-refused (refused n p) r e number place v = let z = ap (λ (u : Case). u .verdict) e in cc
-case-refused (accepted f) r e number place v = let z = ap (λ (u : Case). u .verdict) e in clash (cc)
+module _ {file : List ℕ} {r : Case} (w : CaseFile file r) where
+  pub case-formed : WellFormed (tableAt (r .table .kind) (r .table .first) (r .table .second)) (runAt (r .events .count) (r .events .kind) (r .events .cell))
+  case-formed = subst (λ T. WellFormed T (runAt (r .events .count) (r .events .kind) (r .events .cell))) (sym (case-table w))
+      (subst (WellFormed (tableOf (w .f .cells))) (sym (case-run w)) (accepted-file file (w .f) (w .read) .formed))
 
--- The table and the events that were read.
-pub record Kept (x : Reading) (t : Table) (e : Events) : Type 0 where
-  pub f : File
-  pub read : x ≡ accepted f
-  pub table : t ≡ stored (f .cells)
-  pub events : e ≡ storedEvents (f .events)
-
-pub case-accepted : (x : Reading) (r : Case) → r ≡ caseOf x → r .verdict ≡ verdict.Accepted → Kept x (r .table) (r .events)
-case-accepted (refused n p) r e v = let z = ap (λ (u : Case). u .verdict) e in clash (cc)
-case-accepted (accepted f) r e v = record { f = f; read = refl; table = ap (λ (u : Case). u .table) e; events = ap (λ (u : Case). u .events) e }
-
-module _ (file : List ℕ) (t : Table) (e : Events) (k : Kept (readFile file) t e) where
-  pub kept-rows : Bytes file → Rows (t .cells) (t .kind) (t .first) (t .second)
-  kept-rows bytes = subst (λ (u : Table). Rows (u .cells) (u .kind) (u .first) (u .second)) (sym (k .table)) (accepted-rows file (k .f) bytes (k .read))
-
-  pub kept-below : CellsBelow (t .cells) (e .cell) (e .count)
-  kept-below = subst (λ (u : Table). CellsBelow (u .cells) (e .cell) (e .count)) (sym (k .table)) (subst (λ (v : Events). CellsBelow (length (k .f .cells)) (v .cell) (v .count)) (sym (k .events)) below)
-    where
-      below : CellsBelow (length (k .f .cells)) (row aim (k .f .events)) (length (k .f .events))
-      below = record {
-        few = accepted-file file (k .f) (k .read) .fewEvents;
-        below = λ p h. rw (row-at aim (k .f .events) (MK 0) p refl) (accepted-file file (k .f) (k .read) .inside p (getD (k .f .events) p (MK 0)) (elem-getD (k .f .events) p (MK 0) h));
-      }
-
-  -- The table and the run in rows are those of the file.
-  same-table : tableAt (t .kind) (t .first) (t .second) ≡ tableOf (k .f .cells)
-  same-table = ap (λ (u : Table). tableAt (u .kind) (u .first) (u .second)) (k .table) ∙ fun-ext (table-rows (k .f .cells))
-
-  same-run : runAt (e .count) (e .kind) (e .cell) ≡ runOf (k .f .events)
-  same-run = ap (λ (v : Events). runAt (v .count) (v .kind) (v .cell)) (k .events) ∙ fun-ext (run-rows (k .f .events))
-
-  pub kept-formed : WellFormed (tableAt (t .kind) (t .first) (t .second)) (runAt (e .count) (e .kind) (e .cell))
-  kept-formed = subst (λ T. WellFormed T (runAt (e .count) (e .kind) (e .cell))) (sym same-table) (subst (WellFormed (tableOf (k .f .cells))) (sym same-run) (accepted-file file (k .f) (k .read) .formed))
-
-  pub kept-run : (before : List ℕ) (reply : Solved) (after : List ℕ) →
-      CellsRun (t .cells) (tableAt (t .kind) (t .first) (t .second)) (runAt (e .count) (e .kind) (e .cell)) before reply after →
-      CellsRun (length (k .f .cells)) (tableOf (k .f .cells)) (runOf (k .f .events)) before reply after
-  kept-run before reply after w =
-      subst (λ n. CellsRun n (tableOf (k .f .cells)) (runOf (k .f .events)) before reply after) (ap (λ (u : Table). u .cells) (k .table))
-      (subst (λ ev. CellsRun (t .cells) (tableOf (k .f .cells)) ev before reply after) same-run
-      (subst (λ T. CellsRun (t .cells) T (runAt (e .count) (e .kind) (e .cell)) before reply after) same-table w))
+  pub case-ran : (before : List ℕ) (reply : Solved) (after : List ℕ) →
+      CellsRun (r .table .cells) (tableAt (r .table .kind) (r .table .first) (r .table .second)) (runAt (r .events .count) (r .events .kind) (r .events .cell)) before reply after →
+      CellsRun (length (w .f .cells)) (tableOf (w .f .cells)) (runOf (w .f .events)) before reply after
+  case-ran before reply after h =
+      subst (λ n. CellsRun n (tableOf (w .f .cells)) (runOf (w .f .events)) before reply after) (case-count w)
+      (subst (λ T. CellsRun (r .table .cells) T (runOf (w .f .events)) before reply after) (case-table w)
+      (subst (λ ev. CellsRun (r .table .cells) (tableAt (r .table .kind) (r .table .first) (r .table .second)) ev before reply after) (case-run w) h))
 
 -- ---- the promise
 
@@ -140,14 +95,11 @@ module _ (file before : List ℕ) where
 
 -- A right list and "no" exclude each other.
 pub no-and-yes : (file : List ℕ) (f : File) (list : List ℕ) → readFile file ≡ accepted f → NoneRight f → RightListed f list → ⊥
-no-and-yes file f list read none (form, right) = no-list-and-none (tableOf (f .cells)) (runOf (f .events)) _ (accepted-file file f read .lower) right none
-
-laid-beyond : (list before : List ℕ) (n : ℕ) → length list ≡ n → drop n (laid list before) ≡ drop n before
-laid-beyond list before n e = drop-at list (drop (length list) before) n e ∙ ap (λ (k : ℕ). drop k before) e
+no-and-yes file f list read none (form, right) = let (ρ, r) = list-values (tableOf (f .cells)) (runOf (f .events)) _ (accepted-file file f read .lower) right in none ρ r
 
 module _ (file before : List ℕ) (r r′ : Solved) (after after′ : List ℕ) (p : RunPromise file before r after) (p′ : RunPromise file before r′ after′) where
   abbrev Alike : Type 0
-  Alike = (r ≡ r′) × SameButList file before after after′
+  Alike = (r ≡ r′) × SameButList RightListed file before after after′
 
   refusals : {x : Solved} → (r ≡ x) × (after ≡ before) → (r′ ≡ x) × (after′ ≡ before) → Alike
   refusals (e, k) (e′, k′) = (e ∙ sym e′, same (k ∙ sym k′))

@@ -5,15 +5,15 @@ use mathlib.Core.Logic.{_↔_, inl, inr}
 use Prim.Native.Nat.{ℕ}
 use lib.ListN.{length}
 use Rattle.model.specs.Case.{File}
-use Rattle.model.specs.Replies.{RightListed, NoneRight, laid}
+use Rattle.model.specs.Replies.{RightListed, NoneRight, laid, SameButList}
 use Rattle.running.specs.declared.Solved.{Solved}
 use Rattle.running.specs.declared.Solved.the-variants.{No, Yes}
-use Rattle.running.specs.Promise.{Answered, RunPromise, SameButList}
+use Rattle.running.specs.Promise.{Answered, RunPromise}
 use Rattle.running.proofs.PromiseLaws.{settled, no-and-yes}
 
 -- Two replies, with their buffers, that meet the promise for one input are equal but for which right list is shown.
 pub run-settled : (file before : List ℕ) (r r′ : Solved) (after after′ : List ℕ) → RunPromise file before r after → RunPromise file before r′ after′ →
-    (r ≡ r′) × SameButList file before after after′
+    (r ≡ r′) × SameButList RightListed file before after after′
 run-settled = settled
 
 module _ (file before : List ℕ) (reply : Solved) (after : List ℕ) (p : RunPromise file before reply after) (f : File) (q : Answered file before f) where

@@ -1,10 +1,10 @@
 -- What a run promises (document 01, "Run" and "Refusal numbers and their order"), for any bytes and any buffer. Assumes nothing.
--- Answered: the file is accepted and the buffer has room; RunPromise: the contract, a field for each sentence; SameButList: two buffers that differ at most in the list shown.
+-- Answered: the file is accepted and the buffer has room; RunPromise: the contract, a field for each sentence.
 use mathlib.Core.Path.{_≡_}
 use mathlib.Core.List.{List}
 use mathlib.Core.Logic.{_⊎_}
 use Prim.Native.Nat.{ℕ, _≤_, _<_}
-use lib.ListN.{length, drop}
+use lib.ListN.{length}
 use Rattle.model.specs.Case.{File}
 use Rattle.model.specs.Format.{readFile, refused, accepted}
 use Rattle.model.specs.Replies.{RightListed, NoneRight, laid}
@@ -28,9 +28,3 @@ pub record RunPromise (file before : List ℕ) (reply : Solved) (after : List �
   pub no : (f : File) → Answered file before f → reply ≡ No → NoneRight f × (after ≡ before)
   -- "yes": a value list in good form that is right stands at the front of the buffer, and no byte beyond it is touched
   pub yes : (f : File) → Answered file before f → reply ≡ Yes (length (f .cells)) → (list : List ℕ) × RightListed f list × (after ≡ laid list before)
-
--- Two buffers after the reply are equal; or each has a right list at its front, and the bytes beyond it are equal.
-pub data SameButList (file before after after′ : List ℕ) : Type 0 where
-  same : after ≡ after′ → SameButList file before after after′
-  lists : (f : File) (list list′ : List ℕ) → readFile file ≡ accepted f → RightListed f list → RightListed f list′ →
-      after ≡ laid list before → after′ ≡ laid list′ before → drop (length (f .cells)) after ≡ drop (length (f .cells)) after′ → SameButList file before after after′

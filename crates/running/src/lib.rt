@@ -6,8 +6,7 @@ ghost use lib.ListN.{length, take};
 ghost use Rattle.model.specs.Case.{WellFormed};
 ghost use Rattle.model.specs.Stored.{tableAt, runAt};
 ghost use Rattle.model.specs.Replies.{laid};
-ghost use Rattle.theory.specs.Cells.{Rows};
-ghost use Rattle.wants.specs.Starts.{CellsBelow};
+ghost use Rattle.theory.specs.Cells.{Rows, EventRows};
 ghost use Rattle.running.specs.Cells.{CellsRun};
 ghost use Rattle.running.specs.Promise.{RunPromise};
 
@@ -42,7 +41,7 @@ fn run_cells<'a>(
     out: &mut [u8],
 ) -> Solved
     requires { ⌜ Rows n (now kind) (now first) (now second) ⌝ }
-    requires { ⌜ CellsBelow n (now aims) count ⌝ }
+    requires { ⌜ EventRows n (now aims) count ⌝ }
     requires { ⌜ WellFormed (tableAt (now kind) (now first) (now second)) (runAt count (now asks) (now aims)) ⌝ }
     ensures { λ r. ⌜ CellsRun n (tableAt (now (kind .entry)) (now (first .entry)) (now (second .entry))) (runAt count (now (asks .entry)) (now (aims .entry))) (now (out .entry)) r (now (out .exit)) ⌝ }
 {

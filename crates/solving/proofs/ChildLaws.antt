@@ -6,24 +6,18 @@ use mathlib.Core.List.{List}
 use Prim.Native.Nat.{ℕ, _+_, _≤_, _<_}
 use native.Mathlib.Omega.{arith}
 use native.Mathlib.Decide.{decLt}
-use Rattle.model.specs.Message.{Message}
-use Rattle.model.specs.Case.{Table, Reads}
-use Rattle.theory.specs.Cells.{classAt}
-use Rattle.theory.specs.Classes.{Sat}
+use Rattle.model.specs.Case.{Table}
 use Rattle.classes.specs.declared.Settled.{Settled}
 use Rattle.classes.specs.Settle.{Unifies}
+use Rattle.hopeless.specs.Meets.{Never}
 use Rattle.solving.specs.declared.pairs.Next.the-variants as next
 use Rattle.solving.specs.declared.search.Child.{Child}
 use Rattle.solving.specs.Pairs.{Pairs, place, NextPair, ChildOf}
 
 module _ (T : Table) (n : ℕ) (rep want bare : List ℕ) where
-  -- No messages of the cells that satisfy the classes make c and d equal.
-  abbrev pub Never : ℕ → ℕ → Type 0
-  Never c d = (m : ℕ → Message) → Reads T m m → Sat (classAt rep) m → m c ≡ m d → ⊥
-
   -- No pair from the place `from` on up to the place `to` can be made equal.
   abbrev pub Failed : ℕ → ℕ → Type 0
-  Failed from to = (c d : ℕ) → c < n → d < n → from ≤ place c d → place c d < to → Pairs T rep want bare c d → Never c d
+  Failed from to = (c d : ℕ) → c < n → d < n → from ≤ place c d → place c d < to → Pairs T rep want bare c d → Never T rep c d
 
   module _ (few : n ≤ 128) (from : ℕ) where
     pub failed-none : Failed from from
@@ -44,7 +38,7 @@ module _ (T : Table) (n : ℕ) (rep want bare : List ℕ) where
 
       module _ (x y : ℕ) (w : NextPair T n rep want bare (place c d) (next.Pair x y)) where
         -- A pair before the place after x and y failed, is none, or is that of x and y.
-        before : (i j : ℕ) → i < n → j < n → from ≤ place i j → place i j < place x (y + 1) → Pairs T rep want bare i j → Never i j ⊎ ((i ≡ x) × (j ≡ y))
+        before : (i j : ℕ) → i < n → j < n → from ≤ place i j → place i j < place x (y + 1) → Pairs T rep want bare i j → Never T rep i j ⊎ ((i ≡ x) × (j ≡ y))
         before i j hi hj l u p = elim (decLt (place i j) (place c d)) [
           | yes g ↦ inl (old i j hi hj l g p)
           | no g ↦ elim (decLt (place i j) (place x y)) [

@@ -1,4 +1,3 @@
-pub mod KinLaws
 pub mod ListLaws
 pub mod PairLaws
 pub mod PlanLaws

@@ -8,29 +8,28 @@ use native.Mathlib.Omega.{arith}
 use lib.ListN.{length, getD, take, set, length-set}
 use lib.Seq.{getD-take, getD-set-same, getD-set-other, length-take-le}
 use borrow.Author.Count.{below-more}
-use borrow.Author.Tests.{ne-eqb}
 use Rattle.model.specs.Message.{Message, atom}
 use Rattle.model.specs.Case.{VA, MK, Table, Run, look}
 use Rattle.model.specs.Stored.{tableAt}
 use Rattle.model.specs.Values.{cellOf, Entry, Form, RightList}
 use Rattle.model.proofs.Steps.{Comp}
+use Rattle.model.proofs.Stored.{kind-var, var-kind, cell-own, cell-other}
 use Rattle.theory.specs.Cells.{Formed, Grounds, classAt}
 use Rattle.theory.specs.Level.{Mark, built}
 use Rattle.theory.specs.Search.{State}
 use Rattle.theory.proofs.Answers.{τ-reads}
 use Rattle.theory.proofs.Step.{reply-yes}
 use Rattle.knowledge.specs.Knowledge.{ClassRow}
-use Rattle.knowledge.proofs.ByKind.{free-kind}
 use Rattle.solving.specs.Listing.{Valued, Entered, Listed}
 
 -- ---- kinds
 
 module _ (kinds firsts seconds : List ℕ) (c : ℕ) where
-  pub kind-var : getD kinds c 0 ≡ 1 → tableAt kinds firsts seconds c ≡ VA
-  kind-var e = rw e
+  pub kind-free : getD kinds c 0 ≡ 1 → tableAt kinds firsts seconds c ≡ VA
+  kind-free = kind-var (getD kinds c 0) (getD firsts c 0) (getD seconds c 0)
 
   pub kind-solid : (getD kinds c 0 ≡ 1 → ⊥) → tableAt kinds firsts seconds c ≡ VA → ⊥
-  kind-solid n e = n (free-kind (getD kinds c 0) (getD firsts c 0) (getD seconds c 0) e)
+  kind-solid n e = n (var-kind (getD kinds c 0) (getD firsts c 0) (getD seconds c 0) e)
 
 -- ---- the loop
 
@@ -47,12 +46,6 @@ module _ {T : Table} {n : ℕ} {rep : List ℕ} where
   }
 
 -- ---- the list
-
-cell-own : (x : ℕ) → x ≡ 255 → cellOf x ≡ 128
-cell-own x e = rw e
-
-cell-bound : (x : ℕ) → x < 255 → cellOf x ≡ x
-cell-bound x h = rw (ne-eqb x 255 (λ e. omega arith))
 
 module _ {T : Table} {n : ℕ} {rep out : List ℕ} (few : n ≤ 128) (w : Listed T n rep out n) where
   entry-form : (c x : ℕ) → Entered T n rep c x → Entry T n c x
@@ -73,7 +66,7 @@ module _ {T : Table} {n : ℕ} {rep out : List ℕ} (few : n ≤ 128) (w : Liste
     own-name = τ-reads T (classAt rep) (λ y. atom 0) τ (st .closed) (st .idem) τr 128 ∙ ap (look (τ 128) τ) (ok .name)
 
     entry-right : (v x : ℕ) → T v ≡ VA → Entered T n rep v x → (classAt rep v ≡ classAt rep (cellOf x)) ⊎ ((T (classAt rep v) ≡ VA) × (τ (cellOf x) ≡ atom 0))
-    entry-right v x e (Entered.value f (Valued.bound h s i)) = inl (cc (cell-bound x (omega arith), row .idem v))
+    entry-right v x e (Entered.value f (Valued.bound h s i)) = inl (cc (cell-other x (λ q. omega arith), row .idem v))
     entry-right v x e (Entered.value f (Valued.free g i)) = inr (g, ap τ (cell-own x i) ∙ own-name)
     entry-right v x e (Entered.value f (Valued.beyond h i)) = inl (cc (cell-own x i, row .idem v, row .beyond (classAt rep v) h))
     entry-right v x e (Entered.itself s i) = absurd (s e)

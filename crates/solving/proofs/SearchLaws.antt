@@ -8,19 +8,20 @@ use Prim.Native.Nat.{ℕ, _<_}
 use native.Mathlib.Omega.{arith}
 use native.Mathlib.Decide.{decLt}
 use Rattle.model.specs.Message.{atom}
-use Rattle.model.specs.Case.{Cell, MK, Table, Run, WellFormed}
+use Rattle.model.specs.Case.{MK, Table, Run, WellFormed}
 use Rattle.model.specs.Stored.{tableAt}
 use Rattle.model.proofs.Read.{clash}
 use Rattle.theory.specs.Cells.{Rows, classAt, On}
 use Rattle.theory.specs.Level.{Kin, Mark, built}
 use Rattle.theory.specs.Search.{None, NoneWith}
-use Rattle.theory.proofs.Level.{kin-part}
+use Rattle.theory.proofs.Rows.{rows-formed, rows-var}
 use Rattle.theory.proofs.Step.{search-no, clash-none, none-sym, reply-no}
 use Rattle.classes.specs.Kept.{Solved}
 use Rattle.classes.specs.Twins.{Start}
-use Rattle.classes.proofs.RowLaws.{rows-formed}
 use Rattle.classes.proofs.SolvedLaws.{solved-state, solved-grounds}
-use Rattle.knowledge.proofs.Grow.{on?}
+use Rattle.theory.proofs.MarkRows.{on?}
+use Rattle.hopeless.proofs.KinLaws.{kin-sym, kin-below}
+use Rattle.knowledge.proofs.ClassRows.{kept-row}
 use Rattle.solving.specs.Listing.{Listed}
 use Rattle.solving.specs.Pairs.{Mirrored, Pairs, place, ChildOf}
 use Rattle.solving.specs.Plans.{Plans}
@@ -30,12 +31,6 @@ use Rattle.solving.specs.declared.search.Child.{Child}
 use Rattle.solving.specs.declared.search.Found.{Found}
 use Rattle.solving.specs.declared.search.Solution.{Solution}
 use Rattle.solving.proofs.ListLaws.{list-form, list-right}
-use Rattle.solving.proofs.PlanLaws.{kept-row}
-use Rattle.wants.proofs.Rowing.{part-below, var-below}
-
-kin-sym : {k k′ : Cell} → Kin k k′ → Kin k′ k
-kin-sym Kin.ones = Kin.ones
-kin-sym (Kin.twos s) = Kin.twos s
 
 module _ (T : Table) (n : ℕ) (ev : Run) (rep want bare : List ℕ) where
   -- No right values that satisfy the classes make a pair before the place `to` equal.
@@ -99,12 +94,9 @@ module _ {n : ℕ} {K F S rep : List ℕ} (w : Rows n K F S) (ev : Run) (s : Sol
     ready = λ z. absurd (true≢false (sym z ∙ y));
     none = λ _.
         let (q, plan) = p .plan e in
-        search-no T ev (classAt rep) q (On (pl .want)) (On (pl .bare)) (rows-formed n K F S w) wf (solved-state n T rep s) plan
-        (λ c d ec ed x z k a. tried-pairs T n ev rep (pl .want) (pl .bare) all c d (below d c (kin-sym k)) (below c d k) x z k (λ i. a (sym ec ∙ (i ∙ ed))));
+        search-no T ev (classAt rep) q (On (pl .want)) (On (pl .bare)) (rows-formed w) wf (solved-state n T rep s) plan
+        (λ c d ec ed x z k a. tried-pairs T n ev rep (pl .want) (pl .bare) all c d (kin-below w c d k .0) (kin-below w c d k .1) x z k (λ i. a (sym ec ∙ (i ∙ ed))));
   }
-    where
-      below : (c d : ℕ) → Kin (T c) (T d) → d < n
-      below c d k = let (x, q) = kin-part k in part-below w d x q
 
 pub searched-child : (T : Table) (n : ℕ) (ev : Run) (rep next : List ℕ) (f : Found) → Searched T n ev next f → f .yes ≡ true → Searched T n ev rep f
 searched-child T n ev rep next f x y = record { solved = x .solved; ready = x .ready; none = λ z. absurd (true≢false (sym y ∙ z)) }
@@ -127,7 +119,7 @@ module _ {n : ℕ} {K F S : List ℕ} (w : Rows n K F S) (ev : Run) where
     right = λ y.
         let s = x .solved (sym e ∙ y) in
         let (τ, τr) = solved-grounds n T (f .rep) s (λ c. atom 0) in
-        list-right (w .few) l ev (rows-formed n K F S w) (kept-row w (s .kept)) (solved-state n T (f .rep) s) (var-below w) τ τr (x .ready (sym e ∙ y));
+        list-right (w .few) l ev (rows-formed w) (kept-row w (s .kept)) (solved-state n T (f .rep) s) (rows-var w) τ τr (x .ready (sym e ∙ y));
     none = λ y ρ. reply-no T ev (classAt rep) (w .lower) (st .met) (x .none (sym e ∙ y)) ρ;
   }
     where

@@ -1,7 +1,6 @@
 -- The choice of what is tried at one step: its plan.
--- Planned, Plans: what a plan says, of the events before a position and of all; Chosen: one more position; Learns: one more cell that is learnt.
+-- Planned, Plans: what a plan says, of the events before a position and of all; Chosen: one more position.
 use mathlib.Core.Path.{_≡_}
-use mathlib.Core.Logic.{_⊎_}
 use mathlib.Core.Bool.{true, false}
 use mathlib.Core.List.{List}
 use mathlib.Core.Option.{some}
@@ -12,7 +11,6 @@ use Rattle.model.specs.Stored.{runAt}
 use Rattle.theory.specs.Cells.{classAt, On}
 use Rattle.theory.specs.Level.{Mark, built}
 use Rattle.theory.specs.Search.{Plan}
-use Rattle.knowledge.specs.Knowledge.{Marked}
 use Rattle.wants.specs.Starts.{Exact}
 use Rattle.solving.specs.declared.plan.Choice.{Choice}
 
@@ -30,10 +28,3 @@ pub record Plans (T : Table) (ev : Run) (rep : List ℕ) (pl : Choice) : Type 0 
 abbrev pub Chosen : Table → List ℕ → List ℕ → List ℕ → List ℕ → List ℕ → ℕ → Choice → Choice → Type 0
 Chosen T rep seens builts kinds cells p best r = (count : ℕ) → Exact T rep (runAt count kinds cells) p seens builts →
     runAt count kinds cells p ≡ some (MK (getD cells p 0)) → Planned T (runAt count kinds cells) rep p best → Planned T (runAt count kinds cells) rep (p + 1) r
-
--- The row r has the marks of m, and the class of x.
-pub record Learns (rep m : List ℕ) (x : ℕ) (r : List ℕ) : Type 0 where
-  pub kept : (c : ℕ) → On m c → On r c
-  pub here : On r (classAt rep x)
-  pub only : (c : ℕ) → On r c → On m c ⊎ (c ≡ classAt rep x)
-  pub marked : Marked rep m → Marked rep r

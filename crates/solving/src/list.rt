@@ -1,23 +1,22 @@
 // The value list of a class array.
-use knowledge::cell;
+use knowledge::class_of;
 ghost use mathlib.Core.List.{List};
 ghost use Prim.Native.Nat.{ℕ, _≤_, _<_};
 ghost use Rattle.model.specs.Stored.{tableAt};
 ghost use Rattle.solving.specs.Listing.{Valued, Entered, Listed};
 
 // The entry of a variable whose class the cell r stands for.
-pub fn value_of<'a>(kind: &'a [u8; 128], n: usize, r: u8) -> u8
+pub fn value_of<'a>(kind: &'a [u8; 128], n: usize, r: usize) -> u8
     requires { ⌜ n ≤ 128 ⌝ }
     ensures { λ x. ⌜ ((firsts seconds : List ℕ) → Valued (tableAt (now (kind .entry)) firsts seconds) n r x) ⌝ }
 {
-    let i = cell(r);
-    if n <= i {
+    if n <= r {
         return 255;
     }
-    if kind[i] == 1 {
+    if kind[r] == 1 {
         return 255;
     }
-    r
+    r as u8
 }
 
 // The entry of the cell c.
@@ -27,7 +26,7 @@ pub fn entry_of<'a>(kind: &'a [u8; 128], n: usize, rep: &'a [u8; 129], c: usize)
     ensures { λ x. ⌜ ((firsts seconds : List ℕ) → Entered (tableAt (now (kind .entry)) firsts seconds) n (now (rep .entry)) c x) ⌝ }
 {
     if kind[c] == 1 {
-        return value_of(kind, n, rep[c]);
+        return value_of(kind, n, class_of(rep, c));
     }
     c as u8
 }

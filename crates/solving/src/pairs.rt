@@ -1,10 +1,10 @@
 // Pairs of cells that may have to be made equal.
+use hopeless::meets::kin;
 use knowledge::class_of;
 ghost use mathlib.Core.List.{List};
 ghost use Prim.Native.Nat.{ℕ, _≤_, _<_};
-ghost use Rattle.model.specs.Stored.{cellAt, tableAt};
+ghost use Rattle.model.specs.Stored.{tableAt};
 ghost use Rattle.theory.specs.Cells.{On};
-ghost use Rattle.theory.specs.Level.{Kin};
 ghost use Rattle.knowledge.specs.Sweeps.{Decides};
 ghost use Rattle.solving.specs.Pairs.{Mirrored, Pairs, place, NextPair};
 
@@ -12,32 +12,6 @@ ghost use Rattle.solving.specs.Pairs.{Mirrored, Pairs, place, NextPair};
 pub enum Next {
     Pair(usize, usize),
     Nothing,
-}
-
-// Are two cells of one kind that has parts and does not give them by itself? By their kinds and first bytes.
-pub fn kin_bytes(kind: u8, first: u8, kind2: u8, first2: u8) -> bool
-    ensures { λ r. ⌜ ((s s2 : ℕ) → Decides r (Kin (cellAt kind first s) (cellAt kind2 first2 s2))) ⌝ }
-{
-    if kind < 3 {
-        return false;
-    }
-    if kind == 3 {
-        return kind2 == 3;
-    }
-    if kind2 < 4 {
-        return false;
-    }
-    first == first2
-}
-
-// Are the cells c and d of one such kind?
-pub fn kin<'a>(kind: &'a [u8; 128], first: &'a [u8; 128], c: usize, d: usize) -> bool
-    requires { ⌜ c < 128 ⌝ }
-    requires { ⌜ d < 128 ⌝ }
-    ensures { λ r. ⌜ ((seconds : List ℕ) →
-        Decides r (Kin (tableAt (now (kind .entry)) (now (first .entry)) seconds c) (tableAt (now (kind .entry)) (now (first .entry)) seconds d))) ⌝ }
-{
-    kin_bytes(kind[c], first[c], kind[d], first[d])
 }
 
 // Does the pair of c and d also stand the other way round, and earlier?

@@ -3,18 +3,18 @@ use super::pairs::pairing;
 use classes::unify;
 use knowledge::cell;
 use knowledge::class_of;
+use knowledge::learn;
 use knowledge::open_known;
 use wants::sets::wanted;
 use wants::starts::bares;
 ghost use mathlib.Core.Path.{_≡_};
 ghost use mathlib.Core.Bool.{true, false};
-ghost use Prim.Native.Nat.{_≤_, _<_, _+_};
+ghost use Prim.Native.Nat.{_<_, _+_};
 ghost use Rattle.model.specs.Stored.{tableAt, runAt};
-ghost use Rattle.theory.specs.Cells.{Rows};
+ghost use Rattle.theory.specs.Cells.{Rows, EventRows};
 ghost use Rattle.classes.specs.Kept.{Kept};
-ghost use Rattle.knowledge.specs.Knowledge.{ClassRow, Marked};
-ghost use Rattle.wants.specs.Starts.{CellsBelow};
-ghost use Rattle.solving.specs.Plans.{Plans, Chosen, Learns};
+ghost use Rattle.knowledge.specs.Knowledge.{Marked};
+ghost use Rattle.solving.specs.Plans.{Plans, Chosen};
 
 // What is to be tried: if ready, nothing. The number of pairs that can be made equal is a guide only.
 pub struct Choice {
@@ -121,7 +121,7 @@ pub fn choose<'a>(
     requires { ⌜ Rows n (now kind) (now first) (now second) ⌝ }
     requires { ⌜ Kept n (tableAt (now kind) (now first) (now second)) rep ⌝ }
     requires { ⌜ Marked rep (now seen) ⌝ }
-    requires { ⌜ CellsBelow n (now ecell) (p + 1) ⌝ }
+    requires { ⌜ EventRows n (now ecell) (p + 1) ⌝ }
     ensures { λ r. ⌜ Chosen (tableAt (now (kind .entry)) (now (first .entry)) (now (second .entry))) rep (now (seen .entry)) (now (built .entry)) (now (ekind .entry)) (now (ecell .entry)) p best r ⌝ }
 {
     let t = class_of(&rep, cell(ecell[p]));
@@ -150,18 +150,6 @@ pub fn choose<'a>(
     best
 }
 
-// Marks the class of the cell x.
-pub fn learn<'a>(n: usize, rep: &'a [u8; 129], marks: [u8; 129], x: u8) -> [u8; 129]
-    requires { ⌜ ClassRow n (now rep) ⌝ }
-    requires { ⌜ x ≤ 128 ⌝ }
-    ensures { λ r. ⌜ Learns (now (rep .entry)) marks x r ⌝ }
-{
-    let mut m = marks;
-    let t = class_of(rep, cell(x));
-    m[t] = 1;
-    m
-}
-
 // Is a plan with so many pairs good enough to look no further?
 pub fn enough(ready: bool, pairs: usize) -> bool
     ensures { λ r. ⌜ (r ≡ true → ready ≡ false) ⌝ }
@@ -185,7 +173,7 @@ pub fn plan<'a>(
 ) -> Choice
     requires { ⌜ Rows n (now kind) (now first) (now second) ⌝ }
     requires { ⌜ Kept n (tableAt (now kind) (now first) (now second)) rep ⌝ }
-    requires { ⌜ CellsBelow n (now ecell) count ⌝ }
+    requires { ⌜ EventRows n (now ecell) count ⌝ }
     ensures { λ r. ⌜ Plans (tableAt (now (kind .entry)) (now (first .entry)) (now (second .entry))) (runAt count (now (ekind .entry)) (now (ecell .entry))) rep r ⌝ }
 {
     let mut m = [0; 129];
@@ -218,7 +206,7 @@ pub fn plan<'a>(
                 return best;
             }
         } else {
-            let l = learn(n, &rep, m, ecell[p]);
+            let l = learn(n, &rep, m, cell(ecell[p]));
             m = l;
         }
         p += 1;

@@ -9,9 +9,8 @@ use hopeless::hopes::hopeless;
 ghost use Prim.Native.Nat.{_≤_, _<_};
 ghost use Rattle.model.specs.Case.{WellFormed};
 ghost use Rattle.model.specs.Stored.{tableAt, runAt};
-ghost use Rattle.theory.specs.Cells.{Rows};
+ghost use Rattle.theory.specs.Cells.{Rows, EventRows};
 ghost use Rattle.classes.specs.Kept.{Kept, Solved};
-ghost use Rattle.wants.specs.Starts.{CellsBelow};
 ghost use Rattle.solving.specs.Pairs.{place, ChildOf};
 ghost use Rattle.solving.specs.Searches.{Searched, Solves};
 
@@ -90,7 +89,7 @@ pub fn search<'a>(
     rep: [u8; 129],
 ) -> Found
     requires { ⌜ Rows n (now kind) (now first) (now second) ⌝ }
-    requires { ⌜ CellsBelow n (now ecell) count ⌝ }
+    requires { ⌜ EventRows n (now ecell) count ⌝ }
     requires { ⌜ WellFormed (tableAt (now kind) (now first) (now second)) (runAt count (now ekind) (now ecell)) ⌝ }
     requires { ⌜ Solved n (tableAt (now kind) (now first) (now second)) rep ⌝ }
     ensures { λ r. ⌜ Searched (tableAt (now (kind .entry)) (now (first .entry)) (now (second .entry))) n (runAt count (now (ekind .entry)) (now (ecell .entry))) rep r ⌝ }
@@ -133,7 +132,7 @@ pub fn solve<'a>(
     count: usize,
 ) -> Solution
     requires { ⌜ Rows n (now kind) (now first) (now second) ⌝ }
-    requires { ⌜ CellsBelow n (now ecell) count ⌝ }
+    requires { ⌜ EventRows n (now ecell) count ⌝ }
     requires { ⌜ WellFormed (tableAt (now kind) (now first) (now second)) (runAt count (now ekind) (now ecell)) ⌝ }
     ensures { λ r. ⌜ Solves (tableAt (now (kind .entry)) (now (first .entry)) (now (second .entry))) n (runAt count (now (ekind .entry)) (now (ecell .entry))) r ⌝ }
 {

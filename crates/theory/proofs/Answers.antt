@@ -1,14 +1,14 @@
 -- Closed classes that are finite give the replies to run and equating; classes that come round have no values.
-use mathlib.Core.Path.{_≡_, refl, sym, _∙_, ap, subst, fun-ext}
+use mathlib.Core.Path.{_≡_, refl, sym, _∙_, ap, subst}
 use mathlib.Core.Logic.{_↔_, _⊎_, inl, inr}
 use Prim.Native.Nat.{ℕ, _≤_, _<_}
-use Rattle.model.specs.Message.{Message, atom}
-use Rattle.model.specs.Case.{Cell, AT, VA, ONE, TWO, Table, Run, look, Reads, message, Part, Lower, Right}
-use Rattle.theory.specs.Cells.{Formed, Grounds}
+use Rattle.model.specs.Message.{Message}
+use Rattle.model.specs.Case.{VA, Table, Run, look, Reads, Part, Lower, Right}
+use Rattle.theory.specs.Cells.{Grounds}
 use Rattle.theory.specs.Classes.{Alike, Closed, Sat}
-use Rattle.model.specs.Values.{RightValues, RightList, Ends, free, cell, bound, Equates}
+use Rattle.model.specs.Values.{RightList, Ends, free, cell, bound, Equates}
 use Rattle.model.proofs.Steps.{size}
-use Rattle.model.proofs.Read.{var?, message-reads, reads-one}
+use Rattle.model.proofs.Read.{var?}
 use Rattle.theory.proofs.Classes.{part-alike, alike-parts, alike-look, list-classes, rank-strong, reads-ranked, all-done-of-reading}
 
 -- Closed classes that are finite: τ reads them with each free class y put to ν y.
@@ -34,13 +34,6 @@ module _ (T : Table) (rep : ℕ → ℕ) (ν τ : ℕ → Message) (closed : Clo
       at : (v : ℕ) → (rep v ≡ rep (L v)) ⊎ ((T (rep v) ≡ VA) × (τ (L v) ≡ ν (rep v))) → τ v ≡ τ (L v)
       at v (inl e) = τ-one e
       at v (inr (e, x)) = τr v ∙ (ap (look (ν (rep v)) τ) e ∙ sym x)
-
-  -- In the base every free class is put to his own name, which the cell 128 shows.
-  pub run-own : Formed T → ((y : ℕ) → ν y ≡ atom 0) → (ev : Run) (L : ℕ → ℕ) → ((v : ℕ) → T v ≡ VA → (L v ≡ rep v) ⊎ ((T (rep v) ≡ VA) × (L v ≡ 128))) → Right ev τ → RightList T ev L
-  run-own ok own ev L list = run-yes ev L (λ v e. elim (list v e) [ inl i ↦ inl (cc (idem v)) | inr (w, i) ↦ inr (w, ap τ i ∙ (shown ∙ sym (own (rep v)))) ])
-    where
-      shown : τ 128 ≡ atom 0
-      shown = τ-reads 128 ∙ ap (look (τ 128) τ) (ok .name)
 
   -- Yes to equating: the list of the variables' representatives.
   class-ends : (c : ℕ) → Ends T rep c

@@ -3,17 +3,14 @@ use mathlib.Core.Path.{_≡_, refl, sym, _∙_, ap, subst}
 use mathlib.Core.Logic.{_↔_, _⊎_, inl, inr}
 use Prim.Native.Nat.{ℕ, zero, suc, _<_}
 use native.Mathlib.Omega.{arith}
-use Rattle.model.specs.Message.{Message, atom, one, two, pair, Made, Opens, Built}
+use Rattle.model.specs.Message.{Message, atom, one, two, Made, Built}
 use Rattle.model.specs.Case.{Table, look, Ground}
 use Rattle.theory.specs.Marks.{Marks}
-use Rattle.model.specs.Reduce.{Uncomposed, Bare, Rest}
+use Rattle.model.specs.Reduce.{Uncomposed, Rest}
 use Rattle.model.proofs.Steps.{Comp, built-built, comp-built, made?, made-one, made-held, made-atom, size, held-size}
 use Rattle.model.proofs.Read.{clash, var?}
 use Rattle.theory.proofs.Parts.{made-look, Keys}
 use Rattle.theory.proofs.Local.{Shown, built-comp, marked}
-
-pub pair-not-bare : {K : Message → Type 0} {a b : Message} → Bare K (pair a b) → ⊥
-pair-not-bare (h, u) = u _ _ Made.pairs (Built.opens Opens.lefts h h) (Built.opens Opens.rights h h)
 
 -- Whether a message is the intruder's own name.
 pub own? : (x : Message) → (x ≡ atom 0) ⊎ (x ≡ atom 0 → ⊥)

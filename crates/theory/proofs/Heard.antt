@@ -10,6 +10,7 @@ use Rattle.model.specs.Case.{Cell, AT, VA, MK, LN, Table, Run, look, Reads, Par
 use Rattle.theory.specs.Cells.{Makes, Opening, Formed}
 use Rattle.theory.specs.Classes.{Likes, Alike, Sat}
 use Rattle.theory.specs.Level.{Kin, Occ}
+use Rattle.model.proofs.Rows.{no-part}
 use Rattle.model.proofs.Finite.{eq?}
 use Rattle.model.proofs.Steps.{Comp, comp-more, opens-made, opens-atom}
 use Rattle.model.proofs.Read.{strong, var?, look-is}
@@ -49,9 +50,6 @@ module _ (T : Table) (rep : ℕ → ℕ) (ev : Run) where
 
     pub composed-part : {q c d : ℕ} → Composed q c → Part (T (rep c)) d → X q (m d)
     composed-part {d = d} (inl e) h = absurd (no-part (subst (λ k. Part k d) e h))
-      where
-        no-part : Part (AT 0) d → ⊥
-        no-part h = elim h [ ]
     composed-part {q} (inr (i, j, k, z, w)) h = elim (makes-only k h) [ inl e ↦ subst (λ d. X q (m d)) (sym e) z | inr e ↦ subst (λ d. X q (m d)) (sym e) w ]
 
     -- c is composed, or is of one class, or else of one kind and message, with a cell that is seen.

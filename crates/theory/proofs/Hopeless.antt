@@ -1,20 +1,19 @@
 -- A quick no: what he cannot build even if all cells that may be equal are taken to be equal.
 use mathlib.Core.Path.{_≡_, refl, sym, _∙_, ap, subst}
-use mathlib.Core.Logic.{_⊎_, inl, inr}
+use mathlib.Core.Logic.{inl, inr}
 use mathlib.Core.Option.{some}
 use Prim.Native.Nat.{ℕ, _<_}
 use Rattle.model.specs.Message.{Message}
-use Rattle.model.specs.Case.{Cell, AT, VA, MK, LN, Table, Run, Reads, Part, in-arg, in-left, in-right, Makable, WellFormed}
+use Rattle.model.specs.Case.{Cell, AT, VA, MK, LN, Table, Run, Reads, Part, in-arg, in-left, in-right, Makable}
 use Rattle.theory.specs.Cells.{Opening, Formed}
 use Rattle.theory.specs.Classes.{Likes, Sat}
 use Rattle.theory.specs.Level.{Kin, Occ}
-use Rattle.theory.specs.Search.{None, NoneWith, State}
 use Rattle.theory.specs.Hope.{at-arg, at-left, at-right, Place, built, over, seen, holds, makes, Hope}
 use Rattle.model.proofs.Steps.{size}
 use Rattle.model.proofs.Read.{var?}
 use Rattle.theory.proofs.Parts.{makes-parts}
 use Rattle.theory.proofs.Classes.{part-solid, rank-strong, reads-ranked}
-use Rattle.theory.proofs.Level.{class-reads, class-same, occ-same, learnt-made}
+use Rattle.theory.proofs.Level.{class-reads, class-same, occ-same}
 use Rattle.theory.proofs.Heard.{X, Avail, composed-part, part-X, down-X, all-X}
 
 part-place : {m : ℕ → Message} {k k′ : Cell} {x : ℕ} → Likes m m k k′ → Part k x → (x′ : ℕ) × Part k′ x′ × Place k k′ x x′ × (m x ≡ m x′)
@@ -73,10 +72,3 @@ module _ (T : Table) (rep : ℕ → ℕ) (ev : Run) (p : ℕ) (may : ℕ → ℕ
       let (avail, all) = all-X T rep ev O m p ok mr ms (λ c h. Hope.learnt h) (λ q avail c k d o h z. Hope.opens o h (may-build q avail k z)) right made
       (λ q lt avail y s h v j o z. over-Z q avail y h v (Hope.due lt j) z o) in
       may-build p avail t (all t e)
-
--- No: at some position there is no hope.
-pub hopeless-no : (T : Table) (ev : Run) (rep : ℕ → ℕ) (p t : ℕ) (may : ℕ → ℕ → Type 0) → Formed T → WellFormed T ev → State T rep →
-    ((c d : ℕ) → Kin (T (rep c)) (T (rep d)) → (rep c ≡ rep d → ⊥) → may c d ⊎ NoneWith T ev rep c d) → ev p ≡ some (MK t) → (Hope T rep ev p may built t → ⊥) → None T ev rep
-hopeless-no T ev rep p t may ok wf st mays at not m mr right ms =
-    not (right-hope T rep ev p may ok m mr ms (λ c d n e i. cc (st .idem c, st .idem d, st .names (rep c) (rep d) n e i))
-    (λ c d k n e. elim (mays c d k n) [ inl h ↦ h | inr no-m ↦ absurd (no-m m mr right ms e) ]) (right .makes) (learnt-made T rep (st .closed) (ok .lower) wf) t at)

@@ -6,12 +6,9 @@ pub mod Classes
 pub mod Answers
 pub mod Reduce
 pub mod Sort
-pub mod Exists
 pub mod Reduced
 pub mod Twins
 pub mod Merge
-pub mod Close
-pub mod Check
 pub mod Level
 pub mod Heard
 pub mod Theorem
@@ -19,3 +16,4 @@ pub mod Step
 pub mod Hopeless
 pub mod Sweep
 pub mod Rows
+pub mod MarkRows

@@ -1,10 +1,10 @@
 -- Marks that are closed, go by the message and hold nothing unbuilt are exactly the cells that can be built.
 use mathlib.Core.Path.{_≡_, refl, sym, _∙_, ap, subst}
-use mathlib.Core.Logic.{_↔_, _⊎_, inl, inr}
+use mathlib.Core.Logic.{_↔_, inl, inr}
 use Prim.Native.Nat.{ℕ}
 use Rattle.model.specs.Message.{Message, atom, Made, Opens, Built}
-use Rattle.model.specs.Case.{AT, VA, Table, look, Ground}
-use Rattle.theory.specs.Marks.{Closes, Marks}
+use Rattle.model.specs.Case.{VA, Table, look, Ground}
+use Rattle.theory.specs.Marks.{Marks}
 use Rattle.model.proofs.Steps.{Comp, opens-made, opens-atom}
 use Rattle.model.proofs.Read.{var?, look-is}
 use Rattle.theory.proofs.Parts.{made-look, Keys}
@@ -43,17 +43,3 @@ module _ (sh : Table) (m : ℕ → Message) (reads : Ground sh m) (ks : Keys sh 
   -- The marks are exactly the cells that can be built.
   pub marked : (c : ℕ) → Built K (m c) ↔ D c
   marked c = (λ b. comp-marked (built-comp b) c refl, M .sound c)
-
--- Where the cells that are not In show his own name, it is enough that marks go by the message for those that are.
-pub same-all : (sh : Table) (m : ℕ → Message) → Ground sh m → (In : ℕ → Type 0) → ((c : ℕ) → In c ⊎ (In c → ⊥)) → ((c : ℕ) → (In c → ⊥) → sh c ≡ AT 0) → (D : ℕ → Type 0) → Closes sh D →
-    ((c d : ℕ) → In c → In d → m c ≡ m d → D c → D d) → (c d : ℕ) → m c ≡ m d → D c → D d
-same-all sh m reads In in? beyond D cl same c d e h = elim (in? d) [
-  | inr n ↦ cl .zero d (beyond d n)
-  | inl i ↦ elim (in? c) [
-    | inl j ↦ same c d j i e h
-    | inr n ↦ elim (var? (sh d)) [
-      | inl v ↦ cl .free d v
-      | inr s ↦ cl .zero d (look-is (atom 0) m (sh d) s (sym (reads d) ∙ (sym e ∙ (reads c ∙ ap (look (atom 0) m) (beyond c n)))))
-    ]
-  ]
-]

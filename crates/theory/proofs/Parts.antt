@@ -2,7 +2,8 @@
 use mathlib.Core.Path.{_≡_, refl, sym, _∙_, ap, subst}
 use mathlib.Core.Logic.{_⊎_, inl, inr}
 use Prim.Native.Nat.{ℕ}
-use Rattle.model.specs.Message.{One, App, Two, Pair, Seal, Message, two, Made, Opens}
+use Rattle.model.specs.Message.{One, App, Two, Pair, Seal, Message, two, Made, Opens, Held}
+use Rattle.model.specs.Reduce.{Inside, whole, deeper}
 use Rattle.model.specs.Case.{Cell, AT, VA, ONE, TWO, Table, look, Reads, Part, in-arg, in-left, in-right}
 use Rattle.theory.specs.Cells.{Composes, Makes, Opening}
 use Rattle.model.proofs.Read.{look-is}
@@ -69,3 +70,15 @@ keys S ρ m reads = record { able = able; sound = λ c k d. sound }
     sound {c} (Opening.lefts {l = l} e) = subst (λ x. Opens x x (m l)) (sym (reads c ∙ ap (look (ρ c) m) e)) Opens.lefts
     sound {c} (Opening.rights {r = r} e) = subst (λ x. Opens x x (m r)) (sym (reads c ∙ ap (look (ρ c) m) e)) Opens.rights
     sound {c} (Opening.bodies {b = b} {k = k} e) = subst (λ x. Opens x (m k) (m b)) (sym (reads c ∙ ap (look (ρ c) m) e)) Opens.bodies
+
+-- What stands in a message that a cell shows: a part's message, or what stands in one.
+pub held-look : (v : Message) (m : ℕ → Message) (k : Cell) {y : Message} → (k ≡ VA → ⊥) → Held y (look v m k) → (d : ℕ) × Part k d × (m d ≡ y)
+held-look v m (AT n) s h = elim h [ ]
+held-look v m VA s h = absurd (s refl)
+held-look v m (ONE g a) s Held.arg = (a, in-arg, refl)
+held-look v m (TWO t l r) s Held.left = (l, in-left, refl)
+held-look v m (TWO t l r) s Held.right = (r, in-right, refl)
+
+pub inside-part : {x y z : Message} → Inside x y → Held z x → Inside z y
+inside-part whole h = deeper h whole
+inside-part (deeper k i) h = deeper k (inside-part i h)

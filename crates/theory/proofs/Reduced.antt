@@ -1,26 +1,24 @@
 -- Demand 3 on files: reduced files are equal exactly if the same can be built, and reducing again gives the file back.
 use mathlib.Core.Path.{_≡_, refl, sym, _∙_, ap, ap₂, subst}
 use mathlib.Core.Logic.{_↔_, _⊎_, inl, inr}
-use mathlib.Core.List.{List, [], _∷_, map, List·Memᴰ, List·Memᴰ·head, List·Memᴰ·tail, List·Memᴰ·cases-cons}
+use mathlib.Core.List.{List, [], _∷_, map, List·Memᴰ, List·Memᴰ·head, List·Memᴰ·tail}
 use mathlib.Core.Option.{some, none}
 use Prim.Native.Nat.{ℕ, zero, suc, _+_, _*_, _≤_, _<_}
 use native.Mathlib.Omega.{arith}
 use native.Mathlib.Decide.{decLt}
-use lib.ListN.{length, getD, getElem?, length-map}
+use lib.ListN.{length, length-map}
 use lib.Seq.{ext-getD}
 use Rattle.model.specs.Message.{Message, Built}
-use Rattle.model.specs.Case.{Cell, AT, VA, LN, Event, File, tableOf, runOf, Part}
+use Rattle.model.specs.Case.{AT, VA, LN, Event, File, tableOf, runOf}
 use Rattle.model.specs.Stored.{aim}
-use Rattle.model.specs.Format.{accepted, readFile, fileBytes, firstVariable}
+use Rattle.model.specs.Format.{accepted, readFile, fileBytes}
 use Rattle.model.specs.Reduce.{Rest, Reduces, Rising}
-use Rattle.model.specs.Replies.{messagesOf, HeardOf, ReducedTo}
+use Rattle.model.specs.Replies.{messagesOf, HeardOf}
 use Rattle.model.proofs.Accepted.{Accepted}
-use Rattle.model.proofs.Listed.{elem-below, elem-getD, place-member, member-place}
 use Rattle.model.proofs.Read.{clash}
 use Rattle.model.proofs.Rows.{past-cells}
 use Rattle.model.proofs.Sizes.{written-length}
 use Rattle.model.proofs.Steps.{built-more}
-use Rattle.model.proofs.Variables.{no-variable}
 use Rattle.model.proofs.Written.{written-read}
 use Rattle.theory.proofs.Reduce.{reduces-one}
 

@@ -1,17 +1,20 @@
--- The table of an accepted file, and the rows in which it lies.
-use mathlib.Core.Path.{_≡_, _∙_, ap, subst}
+-- The rows in which the table and the events of an accepted file lie, and what they say of the table.
+use mathlib.Core.Path.{_≡_, refl, _∙_, ap, subst}
 use mathlib.Core.List.{List}
-use Prim.Native.Nat.{ℕ, _≤_}
+use Prim.Native.Nat.{ℕ, _≤_, _<_}
 use native.Mathlib.Omega.{arith}
-use lib.ListN.{length}
+use native.Mathlib.Decide.{decLt}
+use lib.ListN.{length, getD}
 use Rattle.model.specs.Message.{App, Two}
-use Rattle.model.specs.Case.{Cell, AT, VA, ONE, TWO, File, tableOf, Part, Lower}
+use Rattle.model.specs.Case.{Cell, AT, VA, ONE, TWO, MK, File, tableOf, Part, Lower}
 use Rattle.model.specs.Reduce.{kind}
 use Rattle.model.specs.Format.{readFile, accepted}
-use Rattle.model.specs.Stored.{first, second, row, tableAt}
+use Rattle.model.specs.Stored.{first, second, aim, row, tableAt}
 use Rattle.model.proofs.Accepted.{Bytes, Small, accepted-file, small-file}
-use Rattle.model.proofs.Rows.{kind-row, first-row, second-row, table-rows, past-cells, cell-fits}
-use Rattle.theory.specs.Cells.{Formed, Rows}
+use Rattle.model.proofs.Read.{clash}
+use Rattle.model.proofs.Listed.{elem-getD}
+use Rattle.model.proofs.Rows.{row-at, kind-row, first-row, second-row, table-rows, past-cells, no-part, cell-fits}
+use Rattle.theory.specs.Cells.{Formed, Rows, EventRows}
 
 kind-known : (k : Cell) → kind k ≤ 4
 kind-known (AT n) = omega arith
@@ -21,9 +24,6 @@ kind-known (TWO Two.Pair l r) = omega arith
 kind-known (TWO Two.Seal l r) = omega arith
 
 module _ (cells : List Cell) where
-  pub formed-table : length cells ≤ 128 → Lower (tableOf cells) → Formed (tableOf cells)
-  formed-table few low = record { lower = low; name = past-cells cells 128 few }
-
   pub table-rows-lower : Lower (tableOf cells) → Lower (tableAt (row kind cells) (row first cells) (row second cells))
   table-rows-lower low c d p = low c d (subst (λ k. Part k d) (table-rows cells c) p)
 
@@ -36,9 +36,31 @@ module _ (cells : List Cell) where
     beyond = λ c h. (kind-row cells c ∙ ap kind (past-cells cells c h), first-row cells c ∙ ap first (past-cells cells c h), second-row cells c ∙ ap second (past-cells cells c h));
   }
 
--- The rows of an accepted file, and its table.
+-- The rows of an accepted file.
 pub accepted-rows : (s : List ℕ) (f : File) → Bytes s → readFile s ≡ accepted f → Rows (length (f .cells)) (row kind (f .cells)) (row first (f .cells)) (row second (f .cells))
 accepted-rows s f b e = let a = accepted-file s f e in rows (f .cells) (a .fewCells) (a .lower) (small-file s f b e)
 
-pub accepted-formed : (s : List ℕ) (f : File) → readFile s ≡ accepted f → Formed (tableOf (f .cells))
-accepted-formed s f e = let a = accepted-file s f e in formed-table (f .cells) (a .fewCells) (a .lower)
+pub accepted-events : (s : List ℕ) (f : File) → readFile s ≡ accepted f → EventRows (length (f .cells)) (row aim (f .events)) (length (f .events))
+accepted-events s f e = let a = accepted-file s f e in record {
+  few = a .fewEvents;
+  below = λ p h. rw (row-at aim (f .events) (MK 0) p refl) (a .inside p (getD (f .events) p (MK 0)) (elem-getD (f .events) p (MK 0) h));
+}
+
+-- ---- what the rows say of the table
+
+module _ {n : ℕ} {K F S : List ℕ} (w : Rows n K F S) where
+  pub rows-beyond : (c : ℕ) → n ≤ c → tableAt K F S c ≡ AT 0
+  rows-beyond c h = let (k, a, b) = w .beyond c h in rw (k, a, b)
+
+  pub rows-formed : Formed (tableAt K F S)
+  rows-formed = record { lower = w .lower; name = rows-beyond 128 (w .few) }
+
+  -- A variable, and a cell with a part, is one of the table's; so is the part.
+  pub rows-var : (c : ℕ) → tableAt K F S c ≡ VA → c < n
+  rows-var c v = elim (decLt c n) [ yes h ↦ h | no h ↦ (let e = rows-beyond c (omega arith) in clash (cc)) ]
+
+  pub rows-part : (c d : ℕ) → Part (tableAt K F S c) d → (c < n) × (d < n)
+  rows-part c d p = elim (decLt c n) [
+    | yes h ↦ (h, omega (arith, w .lower c d p))
+    | no h ↦ absurd (no-part (subst (λ k. Part k d) (rows-beyond c (omega arith)) p))
+  ]

@@ -1,24 +1,20 @@
 -- One step of the search: when it may say yes, and when no.
-use mathlib.Core.Path.{_≡_, refl, sym, _∙_, ap, subst}
+use mathlib.Core.Path.{_≡_, sym, _∙_, ap, subst}
 use mathlib.Core.Logic.{_⊎_}
 use mathlib.Core.Option.{some}
 use Prim.Native.Nat.{ℕ}
-use Rattle.model.specs.Message.{Message, atom}
-use Rattle.model.specs.Case.{AT, VA, MK, Table, Run, look, Reads, Lower, Right, WellFormed}
+use Rattle.model.specs.Message.{Message}
+use Rattle.model.specs.Case.{VA, MK, Table, Run, look, Reads, Lower, Right, WellFormed}
 use Rattle.theory.specs.Cells.{Formed, Grounds}
 use Rattle.theory.specs.Classes.{Sat}
 use Rattle.model.specs.Values.{RightList, RightValues}
 use Rattle.theory.specs.Level.{built, Mark, Bare, Kin, Wanted}
 use Rattle.theory.specs.Search.{None, NoneWith, State, Plan}
-use Rattle.model.proofs.Steps.{Comp, Own}
-use Rattle.theory.proofs.Answers.{τ-sat, τ-reads, run-yes, run-own}
+use Rattle.model.proofs.Steps.{Own}
+use Rattle.theory.proofs.Answers.{τ-sat, τ-reads, run-yes}
 use Rattle.model.proofs.Read.{values-right}
 use Rattle.theory.proofs.Level.{all-built, learnt-made}
 use Rattle.theory.proofs.Theorem.{Node, no-pair-built}
-
-pub names-coarser : (T : Table) (rep rep′ : ℕ → ℕ) → ((c : ℕ) → rep′ (rep c) ≡ rep′ c) →
-    ((c d n : ℕ) → T c ≡ AT n → T d ≡ AT n → rep c ≡ rep d) → (c d n : ℕ) → T c ≡ AT n → T d ≡ AT n → rep′ c ≡ rep′ d
-names-coarser T rep rep′ coarser one c d n e i = cc (coarser c, coarser d, one c d n e i)
 
 -- Yes: at every position what is to be made is built; then the values that put every free class to an own message are right.
 pub search-yes : (T : Table) (ev : Run) (rep : ℕ → ℕ) (ν τ : ℕ → Message) → Formed T → State T rep → Grounds T rep ν τ → ((y : ℕ) → Own (ν y)) →
@@ -43,11 +39,6 @@ search-no T ev rep p want bare ok wf st plan tried m mr right ms = plan .fails (
     apart : (c d : ℕ) → Wanted T rep ev p c → Bare T rep ev p d → Kin (T (rep c)) (T (rep d)) → (rep c ≡ rep d → ⊥) → m c ≡ m d → ⊥
     apart c d w b k n e = tried (rep c) (rep d) (st .idem c) (st .idem d) (plan .wants c w) (plan .bares d b) k n m mr right ms (sym (ms c) ∙ (e ∙ ms d))
 
--- A pair was tried: the classes rep′, which it forces, have no right values.
-pub tried-no : (T : Table) (ev : Run) (rep rep′ : ℕ → ℕ) (c d : ℕ) → ((m : ℕ → Message) → Reads T m m → Sat rep m → m c ≡ m d → Sat rep′ m) →
-    None T ev rep′ → NoneWith T ev rep c d
-tried-no T ev rep rep′ c d joins no-one m mr right ms e = no-one m mr right (joins m mr ms e)
-
 -- or there are no values that make it equal, right or not,
 pub clash-none : (T : Table) (ev : Run) (rep : ℕ → ℕ) (c d : ℕ) → ((m : ℕ → Message) → Reads T m m → Sat rep m → m c ≡ m d → ⊥) → NoneWith T ev rep c d
 clash-none T ev rep c d clash m mr right ms e = clash m mr ms e
@@ -60,12 +51,6 @@ none-sym T ev rep c d not m mr right ms e = not m mr right ms (sym e)
 pub reply-yes : (T : Table) (ev : Run) (rep : ℕ → ℕ) (ν τ : ℕ → Message) → Formed T → State T rep → Grounds T rep ν τ → ((y : ℕ) → Own (ν y)) →
     ((p t : ℕ) → ev p ≡ some (MK t) → Mark T rep ev p built t) → (L : ℕ → ℕ) → ((v : ℕ) → T v ≡ VA → (rep v ≡ rep (L v)) ⊎ ((T (rep v) ≡ VA) × (τ (L v) ≡ ν (rep v)))) → RightList T ev L
 reply-yes T ev rep ν τ ok st τr own all L list = run-yes T rep ν τ (st .closed) (st .idem) τr ev L list (search-yes T ev rep ν τ ok st τr own all)
-
--- so is one that gives it the cell that stands for its class, or, if that is free, the cell 128, which shows his own name;
-pub reply-own : (T : Table) (ev : Run) (rep : ℕ → ℕ) (τ : ℕ → Message) → Formed T → State T rep → Grounds T rep (λ y. atom 0) τ →
-    ((p t : ℕ) → ev p ≡ some (MK t) → Mark T rep ev p built t) → (L : ℕ → ℕ) → ((v : ℕ) → T v ≡ VA → (L v ≡ rep v) ⊎ ((T (rep v) ≡ VA) × (L v ≡ 128))) → RightList T ev L
-reply-own T ev rep τ ok st τr all L list =
-    run-own T rep (λ y. atom 0) τ (st .closed) (st .idem) τr ok (λ y. refl) ev L list (search-yes T ev rep (λ y. atom 0) τ ok st τr (λ y. Comp.own) all)
 
 -- or no values are, if the search began with classes that all values satisfy.
 pub reply-no : (T : Table) (ev : Run) (rep : ℕ → ℕ) → Lower T → ((m : ℕ → Message) → Reads T m m → Sat rep m) → None T ev rep → (ρ : ℕ → Message) → RightValues T ev ρ → ⊥

@@ -1,13 +1,12 @@
--- Sets that are closed as loops compute them hold the marks, and are the marks if they hold nothing else; so they give the plan of a step.
+-- Sets that are closed as loops compute them hold the marks, and are the marks if they hold nothing else.
 use mathlib.Core.Path.{_≡_, refl, sym, _∙_, ap, subst}
-use mathlib.Core.Logic.{_↔_, _⊎_, inl, inr}
+use mathlib.Core.Logic.{_↔_}
 use mathlib.Core.Option.{some}
 use Prim.Native.Nat.{ℕ, _≤_, _<_}
 use native.Mathlib.Omega.{arith}
 use Rattle.model.specs.Case.{VA, MK, Table, Run, Part}
 use Rattle.theory.specs.Cells.{Makes, Opening}
 use Rattle.theory.specs.Level.{Side, seen, built, Mark, Bare, Needed, Holds, Over}
-use Rattle.theory.specs.Search.{Plan}
 use Rattle.theory.specs.Hope.{Hand, Hope}
 use Rattle.theory.specs.Sweep.{Swept, SweptHope}
 
@@ -92,18 +91,6 @@ module _ (T : Table) (rep : ℕ → ℕ) (ev : Run) (p : ℕ) (idem : (c : ℕ) 
           (c : ℕ) → Holds T rep ev p c → H (rep c)
       holds-least H here up x (Holds.here {c = c} e h) = here (rep c) (idem c) e (mark-least h)
       holds-least H here up x (Holds.up {c = c} {d = d} q h) = up (rep c) d (idem c) q (holds-least H here up d h)
-
-      -- So the plan of a step is established.
-      pub swept-plan : (t : ℕ) → ev p ≡ some (MK t) → (B (rep t) → ⊥) → ((c : ℕ) → B c ⊎ (B c → ⊥)) → (want bare : ℕ → Type 0) →
-          ((c : ℕ) → Needed T rep ev p c → want (rep c)) → ((c : ℕ) → Over T rep ev p c → want (rep c)) → ((d : ℕ) → Bare T rep ev p d → bare (rep d)) → Plan T ev rep p want bare
-      swept-plan t at fails B? want bare needed over bares = record {
-        cell = t;
-        at = at;
-        fails = λ h. fails (mark-least h);
-        marked = λ c. elim (B? (rep c)) [ inl b ↦ inl (mark-exact built c .1 b) | inr n ↦ inr (λ h. n (mark-least h)) ];
-        wants = λ c w. elim w [ inl h ↦ needed c h | inr h ↦ over c h ];
-        bares = bares;
-      }
 
   -- A set that holds the cells of H to be made before p, and is closed downwards along H, holds the cells over free ones.
   pub over-least : (H W : ℕ → Type 0) → ((c : ℕ) → Holds T rep ev p c → H (rep c)) → ((q t : ℕ) → q < p → ev q ≡ some (MK t) → H (rep t) → W (rep t)) →

@@ -39,6 +39,11 @@ pub record Rows (n : ℕ) (kinds firsts seconds : List ℕ) : Type 0 where
   pub lower : Lower (tableAt kinds firsts seconds)
   pub beyond : (c : ℕ) → n ≤ c → (getD kinds c 0 ≡ 0) × (getD firsts c 0 ≡ 0) × (getD seconds c 0 ≡ 0)
 
+-- What the row of the cells of m events keeps over n cells.
+pub record EventRows (n : ℕ) (cells : List ℕ) (m : ℕ) : Type 0 where
+  pub few : m ≤ 128
+  pub below : (p : ℕ) → p < m → getD cells p 0 < n
+
 -- The classes that lie in a row of 129 bytes: the entry of a cell is the cell that stands for its class. The cell 128, and all beyond it, show his own name.
 abbrev pub classAt : List ℕ → ℕ → ℕ
 classAt rep c = getD rep (min c 128) 0

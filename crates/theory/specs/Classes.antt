@@ -1,9 +1,9 @@
 -- Classes of cells: `rep c` is the cell that stands for the class of c. What the array keeps and what it means.
 use mathlib.Core.Path.{_≡_}
-use mathlib.Core.Logic.{_↔_, _⊎_}
+use mathlib.Core.Logic.{_⊎_}
 use Prim.Native.Nat.{ℕ, _≤_, _<_}
 use Rattle.model.specs.Message.{One, Two, Message}
-use Rattle.model.specs.Case.{Cell, AT, VA, ONE, TWO, Table, Reads, Part}
+use Rattle.model.specs.Case.{Cell, AT, VA, ONE, TWO, Table, Part}
 
 -- Two cells of one kind, with the same name or function, and with parts to which f and g give the same (their class, or their message).
 pub data Likes {A : Type 0} (f g : ℕ → A) : Cell → Cell → Type 0 where
@@ -42,10 +42,6 @@ pub record Reps (T : Table) (rep : ℕ → ℕ) : Type 0 where
 -- rep′ is rep with r for o.
 abbrev pub Relabels : (ℕ → ℕ) → ℕ → ℕ → (ℕ → ℕ) → Type 0
 Relabels rep o r rep′ = (c : ℕ) → (rep c ≡ o → rep′ c ≡ r) × ((rep c ≡ o → ⊥) → rep′ c ≡ rep c)
-
--- The values of interest, P, are exactly those that satisfy the classes.
-abbrev pub Means : Table → ((ℕ → Message) → Type 0) → (ℕ → ℕ) → Type 0
-Means T P rep = (m : ℕ → Message) → Reads T m m → P m ↔ Sat rep m
 
 -- The classes are closed upwards: cells whose parts are of the same classes are of one class. In says which cells are meant.
 abbrev pub Up : Table → (ℕ → ℕ) → (ℕ → Type 0) → Type 0

@@ -2,7 +2,6 @@
 pub mod Cells
 pub mod Classes
 pub mod Marks
-pub mod Follow
 pub mod Level
 pub mod Hope
 pub mod Search

@@ -1,36 +1,20 @@
 -- Rows of marks that grow, and rows that are the marks at a position of the run.
-use mathlib.Core.Path.{_≡_, refl, sym, _∙_, ap, subst}
-use mathlib.Core.Logic.{_⊎_, inl, inr}
+use mathlib.Core.Path.{_≡_, sym, _∙_, ap, subst}
 use mathlib.Core.List.{List}
-use Prim.Native.Nat.{ℕ, zero, suc, _≤_, _<_}
+use Prim.Native.Nat.{ℕ, _≤_, _<_}
 use native.Mathlib.Omega.{arith}
-use native.Mathlib.Decide.{decLt}
-use lib.ListN.{length, getD, set, length-set, replicate}
-use Rattle.model.specs.Case.{Cell, AT, VA, Table, Run, Part, in-arg, in-left, in-right}
-use Rattle.model.specs.Stored.{tableAt}
-use Rattle.model.proofs.Read.{clash}
-use Rattle.theory.specs.Cells.{Rows, classAt, On, Makes}
+use lib.ListN.{length, set, length-set}
+use Rattle.model.specs.Case.{Table, Run, Part}
+use Rattle.theory.specs.Cells.{classAt, On, Makes}
 use Rattle.theory.specs.Level.{Side, seen, built, Mark}
 use Rattle.theory.specs.Sweep.{Swept}
 use Rattle.theory.proofs.Sweep.{On as sideOn, opening-class}
 use Rattle.knowledge.specs.Knowledge.{ClassRow, Marked}
-use Rattle.knowledge.specs.Sweeps.{leftPart, rightPart}
-use Rattle.knowledge.proofs.Grow.{noMarks, set-kept, set-on, marked-set}
-use Rattle.knowledge.proofs.Closing.{beyond-cell}
+use Rattle.theory.proofs.MarkRows.{set-kept}
+use Rattle.knowledge.proofs.Grow.{marked-set}
 use Rattle.wants.specs.Starts.{Exact, Wider}
 
 -- ---- rows
-
-zeros : (n c : ℕ) → _≡_ {A = ℕ} (getD (replicate n 0) c 0) 0
-zeros zero c = refl
-zeros (suc n) zero = refl
-zeros (suc n) (suc c) = zeros n c
-
-pub none-on : (c : ℕ) → On noMarks c → ⊥
-none-on c o = omega (arith, zeros 129 c, o)
-
-pub none-marked : {rep : List ℕ} → Marked rep noMarks
-none-marked = record { bits = λ c. omega (arith, zeros 129 c); stand = λ c e. absurd (omega (arith, zeros 129 c)) }
 
 module _ {rep : List ℕ} where
   pub wider-none : {m : List ℕ} → length m ≡ 129 → Marked rep m → Wider rep m m
@@ -40,38 +24,6 @@ module _ {rep : List ℕ} where
   wider-mark {m} {r} {j} h s w =
       let i : j < length r = omega (arith, w .long) in
       record { long = length-set r j 1 ∙ w .long; marked = marked-set i s (w .marked); kept = λ c o. set-kept r j i c (w .kept c o) }
-
-  pub wider-wider : {m r q : List ℕ} → Wider rep m r → Wider rep r q → Wider rep m q
-  wider-wider x y = record { long = y .long; marked = y .marked; kept = λ c o. y .kept c (x .kept c o) }
-
--- One mark on a row of none, at the class of g.
-module _ {n : ℕ} {rep : List ℕ} (w : ClassRow n rep) (g t : ℕ) (e : t ≡ classAt rep g) where
-  low : t < length noMarks
-  low = omega (arith, w .low g)
-
-  pub one-marked : Marked rep (set noMarks t 1)
-  one-marked = marked-set low (subst (λ z. classAt rep z ≡ z) (sym e) (w .idem g)) none-marked
-
-  pub one-on : On (set noMarks t 1) (classAt rep g)
-  one-on = subst (On (set noMarks t 1)) e (set-on noMarks t low)
-
--- ---- parts
-
-pub part-side : {k : Cell} {d : ℕ} (c : ℕ) → Part k d → (leftPart k c ≡ d) ⊎ (rightPart k c ≡ d)
-part-side c in-arg = inl refl
-part-side c in-left = inl refl
-part-side c in-right = inr refl
-
--- A cell with parts, or a variable, is one of the table's.
-module _ {n : ℕ} {K F S : List ℕ} (w : Rows n K F S) where
-  pub part-below : (c d : ℕ) → Part (tableAt K F S c) d → c < n
-  part-below c d p = elim (decLt c n) [ yes h ↦ h | no h ↦ absurd (none (subst (λ k. Part k d) (beyond-cell w c (omega arith)) p)) ]
-    where
-      none : {d : ℕ} → Part (AT 0) d → ⊥
-      none p = elim p [ ]
-
-  pub var-below : (c : ℕ) → tableAt K F S c ≡ VA → c < n
-  var-below c v = elim (decLt c n) [ yes h ↦ h | no h ↦ (let e = beyond-cell w c (omega arith) in clash (cc)) ]
 
 -- ---- rows that are the marks
 

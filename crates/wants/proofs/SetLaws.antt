@@ -8,19 +8,21 @@ use Prim.Native.Nat.{ℕ, zero, suc}
 use native.Mathlib.Omega.{arith}
 use lib.Dec.{ltb}
 use lib.ListN.{getD}
-use Rattle.model.specs.Case.{SE, MK, Table, Part, in-left}
+use Rattle.model.specs.Case.{SE, MK, Table, Run, Part, in-left}
 use Rattle.model.specs.Stored.{tableAt, eventAt, runAt}
 use Rattle.model.proofs.Read.{clash}
+use Rattle.model.proofs.Stored.{var-kind}
 use Rattle.theory.specs.Cells.{Rows, Opening, classAt, On}
+use Rattle.theory.specs.Level.{Holds}
 use Rattle.theory.specs.Sweep.{Swept}
+use Rattle.theory.proofs.Rows.{rows-var, rows-part}
 use Rattle.theory.proofs.Sweep.{needed-least, holds-least, over-least}
 use Rattle.knowledge.specs.Knowledge.{ClassRow}
 use Rattle.knowledge.specs.Sweeps.{rightPart}
-use Rattle.knowledge.proofs.ByKind.{free-kind}
-use Rattle.wants.specs.Starts.{Keyed, FreeSeen, Due, Joint}
+use Rattle.wants.specs.Starts.{Exact, Keyed, FreeSeen, Due, Joint}
 use Rattle.wants.specs.Spread.{Lowered, Raised}
-use Rattle.wants.specs.Sets.{HoldsNeeded, HoldsHolds, HoldsOver, HoldsWanted}
-use Rattle.wants.proofs.Rowing.{part-below, var-below, exact-sound, exact-swept}
+use Rattle.wants.specs.Sets.{HoldsNeeded, HeldRow, HoldsOver, HoldsWanted}
+use Rattle.wants.proofs.Rowing.{exact-sound, exact-swept}
 
 -- ---- events
 
@@ -61,7 +63,7 @@ module _ {n : ℕ} {K F S rep : List ℕ} (w : Rows n K F S) (row : ClassRow n r
       sealed : (c b j : ℕ) → T c ≡ SE b j → On seens c → (On builts (classAt rep j) → ⊥) → On r (classAt rep j)
       sealed c b j i s nb =
           let z : rightPart (T c) c ≡ j = ap (λ y. rightPart y c) i in
-          low .wider .kept (classAt rep j) (subst (λ y. On k (classAt rep y)) z (keyed .keys c (part-below w c b (subst (λ y. Part y b) (sym i) in-left))
+          low .wider .kept (classAt rep j) (subst (λ y. On k (classAt rep y)) z (keyed .keys c (rows-part w c b (subst (λ y. Part y b) (sym i) in-left) .0)
           (record { whole = s; sealed = (b, j, i); lacks = λ o. nb (subst (λ y. On builts (classAt rep y)) z o) })))
 
       keys : (c j d : ℕ) → classAt rep c ≡ c → Opening T c j d → On seens c → (On builts (classAt rep j) → ⊥) → On r (classAt rep j)
@@ -71,10 +73,15 @@ module _ {n : ℕ} {K F S rep : List ℕ} (w : Rows n K F S) (row : ClassRow n r
 
   -- ---- cells that hold a free class that is seen
 
-  pub holds-held : {seens m r : List ℕ} → FreeSeen K rep seens m n → Raised T rep m r → HoldsHolds T rep seens r
-  holds-held {seens} {m} {r} free up ev p builts x =
-      holds-least T (classAt rep) ev p (row .idem) (On seens) (On builts) (exact-swept row x) (exact-sound row x) (On r)
-      (λ c e v s. up .wider .kept c (free .free c (var-below w c v) (free-kind (getD K c 0) (getD F c 0) (getD S c 0) v) s)) (up .up)
+  pub held-row : {seens m r : List ℕ} → FreeSeen K rep seens m n → Raised T rep m r → HeldRow T rep seens r
+  held-row free up = record {
+    here = λ c e v s. up .wider .kept c (free .free c (rows-var w c v) (var-kind (getD K c 0) (getD F c 0) (getD S c 0) v) s);
+    up = up .up;
+  }
+
+  held-holds : {seens builts r : List ℕ} {ev : Run} {p : ℕ} → HeldRow T rep seens r → Exact T rep ev p seens builts → (c : ℕ) → Holds T (classAt rep) ev p c → On r (classAt rep c)
+  held-holds {seens} {builts} {r} {ev} {p} hold x =
+      holds-least T (classAt rep) ev p (row .idem) (On seens) (On builts) (exact-swept row x) (exact-sound row x) (On r) (hold .here) (hold .up)
 
   -- ---- cells over a free class
 
@@ -88,9 +95,9 @@ module _ {n : ℕ} {K F S rep : List ℕ} (w : Rows n K F S) (row : ClassRow n r
 
   -- ---- both
 
-  pub wanted-held : (seens builts held kinds cells a b r : List ℕ) (p goal : ℕ) → goal ≡ getD cells p 0 → HoldsNeeded T rep seens builts goal a → HoldsHolds T rep seens held →
+  pub wanted-held : (seens builts held kinds cells a b r : List ℕ) (p goal : ℕ) → goal ≡ getD cells p 0 → HoldsNeeded T rep seens builts goal a → HeldRow T rep seens held →
       HoldsOver T rep held kinds cells p b → Joint a b r 129 → HoldsWanted T rep seens builts kinds cells p r
   wanted-held seens builts held kinds cells a b r p goal is need hold over both count x c (inl h) =
       both .left (classAt rep c) (need (runAt count kinds cells) p x (λ t e. sym (make-at count kinds cells p t e .1) ∙ sym is) c h)
   wanted-held seens builts held kinds cells a b r p goal is need hold over both count x c (inr h) =
-      both .right (classAt rep c) (omega (arith, row .low c)) (over count (hold (runAt count kinds cells) p builts x) c h)
+      both .right (classAt rep c) (omega (arith, row .low c)) (over count (held-holds hold x) c h)

@@ -1,24 +1,31 @@
 -- Sweeps that spread marks down to parts and up from them, and that marks at which they change nothing are closed.
 use mathlib.Core.Path.{_≡_, refl, sym, subst}
-use mathlib.Core.Logic.{inl, inr}
+use mathlib.Core.Logic.{_⊎_, inl, inr}
 use mathlib.Core.Bool.{Bool, true, false, true≢false}
 use mathlib.Core.List.{List}
 use Prim.Native.Nat.{ℕ, _+_, _≤_}
 use native.Mathlib.Omega.{arith}
 use lib.ListN.{length, getD, set}
 use borrow.Author.Count.{below-more}
-use Rattle.model.specs.Case.{Table, Part}
+use Rattle.model.specs.Case.{Cell, Table, Part, in-arg, in-left, in-right}
 use Rattle.model.specs.Stored.{tableAt}
+use Rattle.model.proofs.Finite.{eq?}
 use Rattle.theory.specs.Cells.{Rows, classAt, On}
+use Rattle.theory.proofs.Rows.{rows-part}
 use Rattle.knowledge.specs.Knowledge.{ClassRow, Marked}
 use Rattle.knowledge.specs.Sweeps.{leftPart, rightPart, leftClass, rightClass, Grown}
-use Rattle.knowledge.proofs.Grow.{on?, same?, grown-none, grown-mark}
+use Rattle.theory.proofs.MarkRows.{on?}
+use Rattle.knowledge.proofs.Grow.{grown-none, grown-mark}
 use Rattle.wants.specs.Starts.{EndsAt, Wider}
 use Rattle.wants.specs.Spread.{Reaches, Lowering, Lowered, Raises, Raising, Raised}
-use Rattle.wants.proofs.Rowing.{part-side, part-below}
 
 pub grown-wider : {rep m₀ m r : List ℕ} {ch : Bool} → Wider rep m₀ m → Grown rep m r ch → Wider rep m₀ r
 grown-wider x g = record { long = g .long; marked = g .marked; kept = λ c o. g .kept c (x .kept c o) }
+
+part-side : {k : Cell} {d : ℕ} (c : ℕ) → Part k d → (leftPart k c ≡ d) ⊎ (rightPart k c ≡ d)
+part-side c in-arg = inl refl
+part-side c in-left = inl refl
+part-side c in-right = inr refl
 
 -- ---- down
 
@@ -57,7 +64,7 @@ module _ (T : Table) {n : ℕ} {rep : List ℕ} (row : ClassRow n rep) (only : L
     pub lowering-skip : (Reaches r only flag c b → ⊥) → Lowering T rep only flag m r ch n c
     lowering-skip none = record {
       grown = x .sweep .grown;
-      still = λ i d h g. elim (same? d c) [
+      still = λ i d h g. elim (eq? d c) [
         | inl q ↦ subst (λ z. (Reaches r only flag z (leftClass T rep z) → ⊥) × (Reaches r only flag z (rightClass T rep z) → ⊥)) (sym q)
             (x .left i, λ y. none (subst (Reaches r only flag c) (sym (e .right)) y))
         | inr o ↦ x .sweep .still i d (omega arith) g
@@ -76,7 +83,7 @@ module _ {n : ℕ} {K F S rep : List ℕ} (w : Rows n K F S) (only : List ℕ) (
 
       parts : (c d : ℕ) → classAt rep c ≡ c → On r c → Part (T c) d → getD only (classAt rep d) 0 ≡ flag → On r (classAt rep d)
       parts c d e o q f =
-          let (l, k) = y .still refl c (omega arith) (part-below w c d q) in
+          let (l, k) = y .still refl c (omega arith) (rows-part w c d q .0) in
           elim (part-side c q) [
             | inl i ↦ reach c (classAt rep d) o f (subst (λ z. Reaches r only flag c (classAt rep z) → ⊥) i l)
             | inr i ↦ reach c (classAt rep d) o f (subst (λ z. Reaches r only flag c (classAt rep z) → ⊥) i k)
@@ -84,7 +91,7 @@ module _ {n : ℕ} {K F S rep : List ℕ} (w : Rows n K F S) (only : List ℕ) (
 
 -- ---- up
 
-module _ (T : Table) {n : ℕ} {rep : List ℕ} (row : ClassRow n rep) (m : List ℕ) where
+module _ (T : Table) (rep m : List ℕ) where
   pub raising-none : length m ≡ 129 → Marked rep m → Raising T rep m m false 0
   raising-none l w = record { grown = grown-none l w; still = λ e c h. absurd (omega arith) }
 
@@ -115,7 +122,7 @@ module _ {n : ℕ} {K F S rep : List ℕ} (w : Rows n K F S) where
       up : (c d : ℕ) → classAt rep c ≡ c → Part (T c) d → On r (classAt rep d) → On r c
       up c d e q o = elim (on? r c) [
         | inl i ↦ i
-        | inr i ↦ absurd (y .still refl c (part-below w c d q) (record {
+        | inr i ↦ absurd (y .still refl c (rows-part w c d q .0) (record {
           stands = e;
           new = i;
           part = elim (part-side c q) [ inl j ↦ inl (subst (λ z. On r (classAt rep z)) (sym j) o) | inr j ↦ inr (subst (λ z. On r (classAt rep z)) (sym j) o) ];

@@ -5,26 +5,28 @@ use Prim.Native.Nat.{ℕ, zero, suc, _+_, _≤_, _<_}
 use native.Mathlib.Omega.{arith}
 use lib.ListN.{length, getD, set, length-set}
 use borrow.Author.Count.{below-more}
-use Rattle.model.specs.Case.{PR, SE, Table, Part}
+use Rattle.model.specs.Case.{PR, Table, Part}
 use Rattle.model.specs.Stored.{cellAt, tableAt}
 use Rattle.model.proofs.Read.{clash}
-use Rattle.theory.specs.Cells.{Rows, Makes, Opening, classAt, On}
+use Rattle.model.proofs.Stored.{seal-kind}
+use Rattle.theory.specs.Cells.{Rows, EventRows, Makes, Opening, classAt, On}
 use Rattle.theory.specs.Sweep.{Swept}
+use Rattle.theory.proofs.Rows.{rows-part}
 use Rattle.theory.proofs.Sweep.{bare-least}
 use Rattle.knowledge.specs.Knowledge.{ClassRow, Marked}
 use Rattle.knowledge.specs.Sweeps.{rightPart, rightClass}
 use Rattle.knowledge.proofs.ByKind.{makes-cell, makes-ends}
-use Rattle.knowledge.proofs.Grow.{set-kept, set-on}
+use Rattle.theory.proofs.MarkRows.{set-kept, set-on}
 use Rattle.wants.specs.declared.starts.Pick.{Pick}
 use Rattle.wants.specs.declared.starts.Pick.the-variants as pick
-use Rattle.wants.specs.Starts.{EndsAt, BareAt, BareTo, HoldsBare, LacksKey, KeyTold, Keyed, FreeSeen, CellsBelow, DueTold, Due, Joint}
-use Rattle.wants.proofs.Rowing.{wider-none, wider-mark, part-below, exact-sound, exact-swept}
+use Rattle.wants.specs.Starts.{EndsAt, BareAt, BareTo, HoldsBare, LacksKey, KeyTold, Keyed, FreeSeen, DueTold, Due, Joint}
+use Rattle.wants.proofs.Rowing.{wider-none, wider-mark, exact-sound, exact-swept}
 
 -- ---- one more turn of a loop: a mark at c
 
-module _ (P : ℕ → Type 0) (r : List ℕ) (c : ℕ) (h : c < length r) where
-  pub more-on : ((d : ℕ) → d < c → P d → On r d) → (d : ℕ) → d < c + 1 → P d → On (set r c 1) d
-  more-on all = below-more (λ d. P d → On (set r c 1) d) c (λ d l p. set-kept r c h d (all d l p)) (λ p. set-on r c h)
+module _ (P : ℕ → Type 0) (r : List ℕ) (c : ℕ) where
+  pub more-on : c < length r → ((d : ℕ) → d < c → P d → On r d) → (d : ℕ) → d < c + 1 → P d → On (set r c 1) d
+  more-on h all = below-more (λ d. P d → On (set r c 1) d) c (λ d l p. set-kept r c h d (all d l p)) (λ p. set-on r c h)
 
   pub more-off : (P c → ⊥) → ((d : ℕ) → d < c → P d → On r d) → (d : ℕ) → d < c + 1 → P d → On r d
   more-off none all = below-more (λ d. P d → On r d) c all (λ p. absurd (none p))
@@ -54,13 +56,13 @@ module _ {T : Table} {rep seens builts : List ℕ} where
   pub bare-mark : {r : List ℕ} {c : ℕ} → c ≤ 128 → BareTo T rep seens builts r c → BareTo T rep seens builts (set r c 1) (c + 1)
   bare-mark {r} {c} h w = record { long = length-set r c 1 ∙ w .long; bares = more-on (BareAt T rep seens builts) r c (omega (arith, w .long)) (w .bares) }
 
-  pub bare-skip : {r : List ℕ} {c : ℕ} → c ≤ 128 → (BareAt T rep seens builts c → ⊥) → BareTo T rep seens builts r c → BareTo T rep seens builts r (c + 1)
-  bare-skip {r} {c} h n w = record { long = w .long; bares = more-off (BareAt T rep seens builts) r c (omega (arith, w .long)) n (w .bares) }
+  pub bare-skip : {r : List ℕ} {c : ℕ} → BareTo T rep seens builts r c → (BareAt T rep seens builts c → ⊥) → BareTo T rep seens builts r (c + 1)
+  bare-skip {r} {c} w n = record { long = w .long; bares = more-off (BareAt T rep seens builts) r c n (w .bares) }
 
 module _ {n : ℕ} {K F S rep : List ℕ} (w : Rows n K F S) (row : ClassRow n rep) where
   pub bare-held : {seens builts r : List ℕ} → BareTo (tableAt K F S) rep seens builts r n → HoldsBare (tableAt K F S) rep seens builts r
   bare-held {seens} {builts} {r} all ev p x = bare-least (tableAt K F S) (classAt rep) ev p (row .idem) (On seens) (On builts) sw (exact-sound row x) (On r)
-      (λ c d e q s n. all .bares c (part-below w c d q) (record { whole = s; shut = λ l k i. pair c l k e i s n; part = (d, q); lacks = n }))
+      (λ c d e q s n. all .bares c (rows-part w c d q .0) (record { whole = s; shut = λ l k i. pair c l k e i s n; part = (d, q); lacks = n }))
     where
       T : Table
       T = tableAt K F S
@@ -77,13 +79,6 @@ module _ {n : ℕ} {K F S rep : List ℕ} (w : Rows n K F S) (row : ClassRow n r
           (sw .had (classAt rep k) (row .idem k) (sw .opens c c k e (Opening.rights i) s b))
 
 -- ---- keys
-
-pub seal-kind : (k f s : ℕ) {l r : ℕ} → cellAt k f s ≡ SE l r → k ≡ 3
-seal-kind zero f s e = clash (cc)
-seal-kind (suc zero) f s e = clash (cc)
-seal-kind (suc (suc zero)) f s e = clash (cc)
-seal-kind (suc (suc (suc zero))) f s e = refl
-seal-kind (suc (suc (suc (suc k)))) f s e = clash (cc)
 
 module _ (K F S : List ℕ) (rep seens builts : List ℕ) (c : ℕ) where
   pub key-unsealed : (getD K c 0 ≡ 3 → ⊥) → KeyTold (tableAt K F S) rep seens builts c pick.Nothing
@@ -156,11 +151,8 @@ module _ (kinds rep seens : List ℕ) where
 
 -- ---- what is to be made
 
-pub fewer-below : {n : ℕ} {cells : List ℕ} {p : ℕ} → CellsBelow n cells (p + 1) → CellsBelow n cells p
-fewer-below w = record { few = omega (arith, w .few); below = λ q h. w .below q (omega arith) }
-
-pub below-upto : {n : ℕ} {cells : List ℕ} {p count : ℕ} → CellsBelow n cells count → p < count → CellsBelow n cells (p + 1)
-below-upto w l = record { few = omega (arith, w .few); below = λ q h. w .below q (omega arith) }
+pub fewer-events : {n : ℕ} {cells : List ℕ} {p count : ℕ} → EventRows n cells count → p ≤ count → EventRows n cells p
+fewer-events w l = record { few = omega (arith, w .few); below = λ q h. w .below q (omega arith) }
 
 module _ (rep held : List ℕ) (kind x : ℕ) where
   pub due-new : (t : ℕ) → t ≡ classAt rep x → DueTold rep held kind x (pick.Mark t)
@@ -218,4 +210,4 @@ module _ {a b : List ℕ} where
         record { long = length-set r c 1 ∙ w .long; left = λ d o. set-kept r c i d (w .left d o); right = more-on (On b) r c i (w .right) }
 
     pub joint-skip : (On b c → ⊥) → Joint a b r (c + 1)
-    joint-skip none = record { long = w .long; left = w .left; right = more-off (On b) r c (omega (arith, w .long)) none (w .right) }
+    joint-skip none = record { long = w .long; left = w .left; right = more-off (On b) r c none (w .right) }

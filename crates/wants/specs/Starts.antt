@@ -1,6 +1,6 @@
 -- The marks that the sets of a step start from, as loops compute them from the marks of what is seen and built at a position of the run.
 -- Exact: rows that are the marks at a position; EndsAt: the classes of parts; Wider: more marks;
--- BareAt, BareTo, HoldsBare: the bare cells; LacksKey, KeyTold, Keyed: keys; FreeSeen: free cells; CellsBelow, Due: what is to be made; Joint: two rows.
+-- BareAt, BareTo, HoldsBare: the bare cells; LacksKey, KeyTold, Keyed: keys; FreeSeen: free cells; DueTold, Due: what is to be made; Joint: two rows.
 use mathlib.Core.Path.{_≡_}
 use mathlib.Core.Logic.{_↔_}
 use mathlib.Core.List.{List}
@@ -71,11 +71,6 @@ pub record FreeSeen (kinds rep seens r : List ℕ) (upto : ℕ) : Type 0 where
   pub long : length r ≡ 129
   pub marked : Marked rep r
   pub free : (c : ℕ) → c < upto → getD kinds c 0 ≡ 1 → On seens c → On r c
-
--- The cells of the events before p are below n.
-pub record CellsBelow (n : ℕ) (cells : List ℕ) (p : ℕ) : Type 0 where
-  pub few : p ≤ 128
-  pub below : (q : ℕ) → q < p → getD cells q 0 < n
 
 -- What is found at an event: the class of its cell, if it is to be made and marked in the row `held`.
 pub data DueTold (rep held : List ℕ) (kind x : ℕ) : Pick → Type 0 where

@@ -5,13 +5,13 @@ use super::starts::due;
 use super::starts::free_seen;
 use super::starts::keys;
 use knowledge::cell;
-use knowledge::class_of;
+use knowledge::learn;
 ghost use Prim.Native.Nat.{_≤_, _<_, _+_};
 ghost use Rattle.model.specs.Stored.{tableAt};
-ghost use Rattle.theory.specs.Cells.{Rows};
+ghost use Rattle.theory.specs.Cells.{Rows, EventRows};
 ghost use Rattle.knowledge.specs.Knowledge.{ClassRow, Marked};
-ghost use Rattle.wants.specs.Starts.{CellsBelow, Joint};
-ghost use Rattle.wants.specs.Sets.{HoldsNeeded, HoldsHolds, HoldsOver, HoldsWanted};
+ghost use Rattle.wants.specs.Starts.{Joint};
+ghost use Rattle.wants.specs.Sets.{HoldsNeeded, HeldRow, HoldsOver, HoldsWanted};
 
 // What is to be made, the keys that are not built of the seals that are seen, and of such cells the parts that are not built.
 pub fn needed<'a>(
@@ -29,9 +29,7 @@ pub fn needed<'a>(
     requires { ⌜ goal ≤ 128 ⌝ }
     ensures { λ r. ⌜ HoldsNeeded (tableAt (now (kind .entry)) (now (first .entry)) (now (second .entry))) (now (rep .entry)) (now (seen .entry)) (now (built .entry)) goal r ⌝ }
 {
-    let mut m = [0; 129];
-    let t = class_of(rep, goal);
-    m[t] = 1;
+    let m = learn(n, rep, [0; 129], goal);
     let k = keys(kind, first, second, n, rep, seen, built, m);
     lowered(kind, first, second, n, rep, built, 0, k)
 }
@@ -48,7 +46,7 @@ pub fn holds<'a>(
     requires { ⌜ Rows n (now kind) (now first) (now second) ⌝ }
     requires { ⌜ ClassRow n (now rep) ⌝ }
     requires { ⌜ Marked (now rep) (now seen) ⌝ }
-    ensures { λ r. ⌜ HoldsHolds (tableAt (now (kind .entry)) (now (first .entry)) (now (second .entry))) (now (rep .entry)) (now (seen .entry)) r ⌝ }
+    ensures { λ r. ⌜ HeldRow (tableAt (now (kind .entry)) (now (first .entry)) (now (second .entry))) (now (rep .entry)) (now (seen .entry)) r ⌝ }
 {
     let m = free_seen(kind, n, rep, seen);
     raised(kind, first, second, n, rep, m)
@@ -68,7 +66,7 @@ pub fn over<'a>(
 ) -> [u8; 129]
     requires { ⌜ Rows n (now kind) (now first) (now second) ⌝ }
     requires { ⌜ ClassRow n (now rep) ⌝ }
-    requires { ⌜ CellsBelow n (now ecell) p ⌝ }
+    requires { ⌜ EventRows n (now ecell) p ⌝ }
     ensures { λ r. ⌜ HoldsOver (tableAt (now (kind .entry)) (now (first .entry)) (now (second .entry))) (now (rep .entry)) (now (hold .entry)) (now (ekind .entry)) (now (ecell .entry)) p r ⌝ }
 {
     let m = due(n, rep, hold, ekind, ecell, p);
@@ -106,7 +104,7 @@ pub fn wanted<'a>(
     requires { ⌜ Rows n (now kind) (now first) (now second) ⌝ }
     requires { ⌜ ClassRow n (now rep) ⌝ }
     requires { ⌜ Marked (now rep) (now seen) ⌝ }
-    requires { ⌜ CellsBelow n (now ecell) (p + 1) ⌝ }
+    requires { ⌜ EventRows n (now ecell) (p + 1) ⌝ }
     ensures { λ r. ⌜ HoldsWanted (tableAt (now (kind .entry)) (now (first .entry)) (now (second .entry))) (now (rep .entry)) (now (seen .entry)) (now (built .entry)) (now (ekind .entry)) (now (ecell .entry)) p r ⌝ }
 {
     let need = needed(kind, first, second, n, rep, seen, built, cell(ecell[p]));

@@ -1,6 +1,5 @@
 // Marks that spread over the classes, down to parts or up from them, until nothing changes.
 use super::starts::ends;
-use knowledge::Ends;
 use knowledge::class_of;
 ghost use Prim.Native.Nat.{_≤_, _<_};
 ghost use Rattle.model.specs.Stored.{tableAt};
@@ -9,6 +8,7 @@ ghost use Rattle.knowledge.specs.Knowledge.{ClassRow, Marked};
 ghost use Rattle.knowledge.specs.Sweeps.{Decides};
 ghost use Rattle.wants.specs.Spread.{Reaches, Lowering, Lowered, Raises, Raising, Raised};
 
+// A row of marks, and whether it has more than before.
 pub struct Swept {
     pub marks: [u8; 129],
     pub changed: bool,

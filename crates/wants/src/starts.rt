@@ -7,10 +7,10 @@ ghost use mathlib.Core.Path.{_≡_};
 ghost use mathlib.Core.Bool.{false};
 ghost use Prim.Native.Nat.{_≤_, _<_};
 ghost use Rattle.model.specs.Stored.{tableAt};
-ghost use Rattle.theory.specs.Cells.{Rows};
+ghost use Rattle.theory.specs.Cells.{Rows, EventRows};
 ghost use Rattle.knowledge.specs.Knowledge.{ClassRow, Marked};
 ghost use Rattle.knowledge.specs.Sweeps.{Decides};
-ghost use Rattle.wants.specs.Starts.{EndsAt, BareAt, HoldsBare, KeyTold, Keyed, FreeSeen, CellsBelow, DueTold, Due};
+ghost use Rattle.wants.specs.Starts.{EndsAt, BareAt, HoldsBare, KeyTold, Keyed, FreeSeen, DueTold, Due};
 
 // A cell to be marked, or none.
 pub enum Pick {
@@ -149,6 +149,7 @@ pub fn keys<'a>(
     m
 }
 
+// Are both bytes 1?
 pub fn both_one(a: u8, b: u8) -> bool
     ensures { λ r. ⌜ Decides r ((a ≡ 1) × (b ≡ 1)) ⌝ }
 {
@@ -207,7 +208,7 @@ pub fn due<'a>(
 ) -> [u8; 129]
     requires { ⌜ n ≤ 128 ⌝ }
     requires { ⌜ ClassRow n (now rep) ⌝ }
-    requires { ⌜ CellsBelow n (now ecell) p ⌝ }
+    requires { ⌜ EventRows n (now ecell) p ⌝ }
     ensures { λ r. ⌜ Due (now (rep .entry)) (now (hold .entry)) (now (ekind .entry)) (now (ecell .entry)) r p ⌝ }
 {
     let mut m = [0; 129];

@@ -29,17 +29,16 @@ pub fn table(seed: u64) {
         for (shape, case, a, b) in families::equal(cells, Chance::new(seed)) {
             let file = case.bytes();
             let (number, time) = time_of(|| library::equate(&file, a, b, &mut out));
-            assert!(number == 1 + cells as u64 || !library::has("equate"), "equating {shape} at {cells} cells");
+            assert!(number == 1 + cells as u64, "equating {shape} at {cells} cells");
             add("equate", shape, time);
         }
         for (shape, case, list) in families::listed(cells, Chance::new(seed)) {
             let file = case.bytes();
             let (number, time) = time_of(|| library::check(&file, &list));
-            assert!(number == 1 || !library::has("check"), "list check of {shape} at {cells} cells");
+            assert!(number == 1, "list check of {shape} at {cells} cells");
             add("check", shape, time);
         }
     }
-    lines.retain(|line| library::has(line.0));
     lines.sort_by_key(|line| line.0);
     for (question, shape, times) in lines {
         let growth = times[3].as_secs_f64() / times[2].as_secs_f64();

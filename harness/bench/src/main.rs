@@ -12,7 +12,7 @@ use std::time::Duration;
 use measure::Limits;
 
 const HELP: &str = "\
-bench: the library's run beside the lazy intruder as published, and its other questions by size.
+bench: the library's run beside the lazy intruder, as published and with shortcuts, and its other questions by size.
 
   --cases FOLDER      folder of *.case files (cases, else harness/cases)
   --family NAME       only families whose name begins so
@@ -21,6 +21,7 @@ bench: the library's run beside the lazy intruder as published, and its other qu
   --library-limit MS  time for one run of the library (10000)
   --lazy-limit MS     time for one run of the lazy intruder (2000)
   --only runs|growth  one of the two tables
+  --only once         no table: each run asked once, for profile.sh
 
 Exit status: 0, or 1 if two ways of solving disagree, 2 for a flag not understood.";
 
@@ -49,9 +50,9 @@ fn options() -> Result<Options, String> {
             "--seed" => options.seed = number()?,
             "--library-limit" => options.limits.library = Duration::from_millis(number()?),
             "--lazy-limit" => options.limits.lazy = Duration::from_millis(number()?),
-            "--only" => options.only = value,
+            "--only" if ["runs", "growth", "once"].contains(&value.as_str()) => options.only = value,
             "--measure" => options.measure = Some(bytes(&value)?),
-            _ => return Err(format!("{flag}: no such flag\n\n{HELP}")),
+            _ => return Err(format!("{flag} {value}: not understood\n\n{HELP}")),
         }
     }
     Ok(options)
@@ -73,11 +74,15 @@ fn main() -> ExitCode {
     if let Some(file) = &options.measure {
         measure::inside(file, options.limits);
     }
+    if options.only == "once" {
+        runs::once(&options);
+        return ExitCode::SUCCESS;
+    }
     if !library::LINKED {
         println!("No library is linked: the column \"library\" shows a stand-in.\n");
     }
     let mut agreed = true;
-    if options.only != "growth" && library::has("run") {
+    if options.only != "growth" {
         agreed = runs::table(&options);
     }
     if options.only != "runs" {

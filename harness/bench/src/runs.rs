@@ -51,6 +51,15 @@ fn families(options: &Options) -> Vec<Family> {
     families
 }
 
+/// Asks the library for the run of each case once, for a profiler.
+pub fn once(options: &Options) {
+    let mut out = [0u8; 128];
+    for (name, file) in families(options).iter().flat_map(|family| &family.files) {
+        println!("{name}");
+        library::run(file, &mut out);
+    }
+}
+
 /// Median of one way over the cases of a family; unfinished ones count as their limit.
 fn middle(cases: &[Case], way: usize) -> Duration {
     median(cases.iter().map(|case| case[way].time).collect())

@@ -87,35 +87,22 @@ impl Asking<'_> {
 
     /// Build marks and reducing, as far as they are asked.
     pub fn ground_questions(&mut self) {
-        if self.options.asks("marks") {
-            self.marks();
-        }
-        if self.options.asks("reduce") {
-            self.reduce();
-        }
+        self.ground("marks", questions::marks, library::marks);
+        self.ground("reduce", questions::reduce, library::reduce);
     }
 
-    fn marks(&mut self) {
+    fn ground(&mut self, question: &'static str, reference: fn(&[u8], usize) -> Reply, library: fn(&[u8], &mut [u8]) -> u64) {
+        if !self.options.asks(question) {
+            return;
+        }
         let file = self.file;
-        let rooms = match questions::marks(file, usize::MAX) {
+        let rooms = match reference(file, usize::MAX) {
             Reply::Bytes(bytes) => self.rooms(bytes.len()),
             _ => vec![self.some_room()],
         };
         for room in rooms {
-            let call = Call::with(&mut self.chance, room, |out| library::marks(file, out));
-            self.exact("marks", "marks", &call, &questions::marks(file, room), "build marks");
-        }
-    }
-
-    fn reduce(&mut self) {
-        let file = self.file;
-        let rooms = match questions::reduce(file, usize::MAX) {
-            Reply::Bytes(bytes) => self.rooms(bytes.len()),
-            _ => vec![self.some_room()],
-        };
-        for room in rooms {
-            let call = Call::with(&mut self.chance, room, |out| library::reduce(file, out));
-            self.exact("reduce", "reduced", &call, &questions::reduce(file, room), "reducing");
+            let call = Call::with(&mut self.chance, room, |out| library(file, out));
+            self.exact(question, "answered", &call, &reference(file, room), question);
         }
     }
 

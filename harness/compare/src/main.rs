@@ -23,7 +23,7 @@ use options::Options;
 use tally::Tally;
 
 fn main() -> ExitCode {
-    let mut options = match Options::read(std::env::args().skip(1)) {
+    let options = match Options::read(std::env::args().skip(1)) {
         Ok(options) => options,
         Err(message) => {
             eprintln!("{message}");
@@ -38,11 +38,6 @@ fn main() -> ExitCode {
         "{}",
         if library::LINKED { "the library against the reference" } else { "no library linked: a stand-in against the reference" }
     );
-    let lacking: Vec<&str> = options.questions.iter().copied().filter(|q| !library::has(q)).collect();
-    if !lacking.is_empty() {
-        println!("not asked, as the library lacks them: {}", lacking.join(", "));
-        options.questions.retain(|q| library::has(q));
-    }
     let start = Instant::now();
     let mut progress = Progress { last: start, start };
     let mut tally = Tally::default();
@@ -88,8 +83,8 @@ fn made(chance: &mut Chance, damaged_percent: usize) -> Made {
     if chance.percent(damaged_percent) {
         return Made { shape: "damaged", file: damaged(chance.clone()) };
     }
-    let (number, case) = shapes::any(chance.clone());
-    Made { shape: shapes::SHAPES[number], file: case.bytes() }
+    let (shape, case) = shapes::any(chance.clone());
+    Made { shape, file: case.bytes() }
 }
 
 /// Asks all questions about a file; marks and reducing also about the file with atoms in place of its variables.

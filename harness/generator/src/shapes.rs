@@ -6,51 +6,49 @@ use crate::chance::Chance;
 use crate::draft::Draft;
 use crate::planted::planted;
 
-/// The names of the shapes, in the order of their numbers.
-pub const SHAPES: [&str; 15] = [
-    "soup", "ground", "own-name", "keys", "replay", "roles", "woven", "towers", "equal", "locks", "chains", "crossed", "large", "planted",
-    "steered",
+type Maker = fn(&mut Draft);
+
+/// Name, weight and maker of each shape; small files weigh more than large ones.
+const SHAPES: [(&str, usize, Maker); 15] = [
+    ("soup", 8, soup),
+    ("ground", 12, ground),
+    ("own-name", 8, own_name),
+    ("keys", 14, keys),
+    ("replay", 14, replay),
+    ("roles", 10, some_roles),
+    ("woven", 12, woven),
+    ("towers", 2, towers),
+    ("equal", 8, equal),
+    ("locks", 8, locks),
+    ("chains", 4, chains),
+    ("crossed", 6, crossed),
+    ("large", 2, large),
+    ("planted", 40, some_planted),
+    ("steered", 20, steered),
 ];
 
-/// A case file of the given shape.
-pub fn shape(number: usize, chance: Chance) -> CaseFile {
-    let mut draft = Draft::new(chance);
-    match SHAPES[number] {
-        "soup" => soup(&mut draft),
-        "ground" => ground(&mut draft),
-        "own-name" => own_name(&mut draft),
-        "keys" => keys(&mut draft),
-        "replay" => replay(&mut draft),
-        "roles" => {
-            let sessions = draft.chance.between(1, 3);
-            roles(&mut draft, sessions);
+/// Any case file, with the name of its shape.
+pub fn any(mut chance: Chance) -> (&'static str, CaseFile) {
+    let mut left = chance.below(SHAPES.iter().map(|(_, weight, _)| weight).sum());
+    for (name, weight, make) in SHAPES {
+        if left < weight {
+            let mut draft = Draft::new(chance);
+            make(&mut draft);
+            return (name, draft.done());
         }
-        "woven" => woven(&mut draft),
-        "towers" => towers(&mut draft),
-        "equal" => equal(&mut draft),
-        "locks" => locks(&mut draft),
-        "chains" => chains(&mut draft),
-        "crossed" => crossed(&mut draft),
-        "large" => large(&mut draft),
-        "planted" => {
-            let rounds = draft.chance.between(1, 3);
-            planted(&mut draft, rounds);
-        }
-        _ => steered(&mut draft),
+        left -= weight;
     }
-    draft.done()
+    unreachable!("the weights add up to more than what is left")
 }
 
-/// Any case file, small ones more often than large ones.
-pub fn any(mut chance: Chance) -> (usize, CaseFile) {
-    let weights = [8, 12, 8, 14, 14, 10, 12, 2, 8, 8, 4, 6, 2, 40, 20];
-    let mut left = chance.below(weights.iter().sum());
-    let mut number = 0;
-    while left >= weights[number] {
-        left -= weights[number];
-        number += 1;
-    }
-    (number, shape(number, chance))
+fn some_roles(draft: &mut Draft) {
+    let sessions = draft.chance.between(1, 3);
+    roles(draft, sessions);
+}
+
+fn some_planted(draft: &mut Draft) {
+    let rounds = draft.chance.between(1, 3);
+    planted(draft, rounds);
 }
 
 fn name(draft: &mut Draft, most: usize) -> u8 {

@@ -14,20 +14,7 @@ pub use stand_in::*;
 /// Whether the library itself is linked, and not the stand-in.
 pub const LINKED: bool = cfg!(linked);
 
-/// Whether a question can be asked: the library linked may still lack some.
-pub fn has(question: &str) -> bool {
-    match question {
-        "equate" => cfg!(any(not(linked), has_equate)),
-        "run" => cfg!(any(not(linked), has_run)),
-        "check" => cfg!(any(not(linked), has_check)),
-        "marks" => cfg!(any(not(linked), has_marks)),
-        "reduce" => cfg!(any(not(linked), has_reduce)),
-        _ => false,
-    }
-}
-
-/// The stand-in's reply where its search for a run stays unfinished, and the reply of a function the library lacks. The
-/// library never gives it.
+/// The stand-in's reply where its search for a run stays unfinished. The library never gives it.
 pub const UNFINISHED: u64 = u64::MAX;
 
 /// Wrong versions of the stand-in, to show that differences are seen. The library has none.

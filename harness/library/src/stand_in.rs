@@ -1,4 +1,5 @@
-//! A stand-in for the library: the plain second way of the reference, and the lazy intruder exactly as published.
+//! A stand-in for the library: the plain second way of the reference, and for a run the lazy intruder, as published and, where that stays
+//! unfinished, with shortcuts.
 
 use std::sync::atomic::{AtomicUsize, Ordering};
 

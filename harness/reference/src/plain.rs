@@ -1,4 +1,4 @@
-//! The questions a second time, by other means: the definitions' closures over cells, tried step by step.
+//! All questions but the run a second time, by other means: the definitions' closures over cells, tried step by step.
 //!
 //! Nothing here is used by [`crate::questions`]; the two are held against each other where the library is not linked.
 

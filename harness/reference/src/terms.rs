@@ -118,7 +118,7 @@ impl Terms {
         self.nodes.is_empty()
     }
 
-    /// Adds every tree inside the given ones, themselves included, each once, parts first.
+    /// Every tree inside the given ones, themselves included, each once, parts first.
     pub fn all_parts(&self, roots: &[Id]) -> Vec<Id> {
         let mut inside = vec![false; self.nodes.len()];
         let mut work: Vec<Id> = roots.to_vec();

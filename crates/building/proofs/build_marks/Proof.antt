@@ -4,10 +4,11 @@ use mathlib.Core.List.{List}
 use native.Mathlib.Omega.{arith}
 use borrow.Author.Needs.{needs}
 use Rattle.theory.specs.Cells.{Rows}
-use Rattle.knowledge.proofs.HeardLaws.{start-row}
+use Rattle.knowledge.proofs.ClassRows.{kept-row}
 use Rattle.casefile.specs.declared.Case.{Case}
+use Rattle.casefile.proofs.CaseFile.{CaseFile, case-refused, case-accepted, case-variable, case-rows, case-events}
 use Rattle.building.proofs.PromiseLaws.{promise-refused, promise-variable}
-use Rattle.building.proofs.CaseLaws.{CaseFile, case-refused, case-accepted, case-variable, case-rows, case-events, answer-short, answer-marks}
+use Rattle.building.proofs.CaseLaws.{answer-short, answer-marks}
 use Rattle.building.proofs.build_marks.Statement.{statement}
 use Rattle.building.proofs.build_marks.Tie as tie
 
@@ -50,7 +51,7 @@ returns-2 : tie.Need-returns-2
 returns-2 c =
     let d = c .before .before .before in
     let r = d .before .before in
-    promise-variable (bytes r) (buffer r) (case d .f) (case d .reads) _ (case-variable (case d) _ (c .before .variable .given .1))
+    promise-variable (bytes r) (buffer r) (case d .f) (case d .read) _ (case-variable (case d) _ (c .before .variable .given .1))
 
 enum-told-2 : tie.Need-enum-told-2
 enum-told-2 c = search needs
@@ -59,7 +60,7 @@ returns-3 : tie.Need-returns-3
 returns-3 c =
     let v = c .before .before .before in
     let d = v .before .before in
-    answer-short (case d) (buffer (d .before .before)) (v .enum-told2 .given .1) (c .if1 .taken)
+    answer-short (case d) (v .enum-told2 .given .1) (buffer (d .before .before)) (c .if1 .taken)
 
 open-heard-requires : tie.Need-open-heard-requires
 open-heard-requires c κs =
@@ -71,8 +72,7 @@ lay-marks-requires c κs =
     let o = c .before .before .before .before .before in
     let l = o .before .before .before .before .before .before .before .before in
     let d = l .before .before .before .before .before in
-    let t = reply (d .before .before) .table in
-    (rows d .few, (start-row (t .cells) (t .kind) (t .first) (t .second) (rows d) (o .open-heard .result .rep) (o .open-heard .ensures .classes) .low, l .if1 .left))
+    (rows d .few, (kept-row (rows d) (o .open-heard .ensures .classes .solved .kept) .low, l .if1 .left))
 
 same-length : tie.Need-same-length
 same-length c = search needs
@@ -84,7 +84,7 @@ returns-4 c =
     let l = o .before .before .before .before .before .before .before .before in
     let v = l .before .before .before in
     let d = v .before .before in
-    answer-marks (case d) (buffer (d .before .before)) (v .enum-told2 .given .1) (l .if1 .left) (o .open-heard .ensures) (y .lay-marks .ensures)
+    answer-marks (case d) (v .enum-told2 .given .1) (buffer (d .before .before)) (l .if1 .left) (o .open-heard .ensures) (y .lay-marks .ensures)
 
 pub build-marks-spec : {M : Type 1} → statement M
 build-marks-spec =

@@ -30,9 +30,9 @@ returns c =
     let s = q .before .before in
     let a = s .args in
     let quiet : q .peel .result .changed ≡ false = not-true _ (i .if1 .taken) in (
-      λ e. peeled-finite (a .n) (a .kind .now) (a .first .now) (a .second .now) (s .pre .0) (a .rep) (s .pre .1) (q .peel .result .done) (q .peel .ensures .peeled) (c .all-done .ensures .yes e),
+      λ e. peeled-finite (s .pre .0) (s .pre .1) (q .peel .result .done) (q .peel .ensures .peeled) (c .all-done .ensures .yes e),
       λ e. (let (x, h, ne) = c .all-done .ensures .no e in
-          peeled-round (a .n) (a .kind .now) (a .first .now) (a .second .now) (s .pre .0) (a .rep) (s .pre .1) (q .peel .result .done) (q .peel .ensures .shut quiet) x h ne),
+          peeled-round (s .pre .0) (s .pre .1) (q .peel .result .done) (q .peel .ensures .shut quiet) x h ne),
     )
 
 loop-less : tie.Need-loop-less Inv-loop μ-loop

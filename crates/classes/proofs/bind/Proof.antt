@@ -25,7 +25,7 @@ returns c =
     let a = s .args in
     let T = tableAt (a .kind .now) (a .first .now) (a .second .now) in
     let (no-at, shut-at) = tag-none (a .n) T (a .rep) (a .c) (q .differ .result) (c .same .result) (c .before .match .keys2) (q .differ .ensures) (c .same .ensures) in
-    record { no = no-at; yes = λ _. moved-none (a .n) T (a .rep) (s .pre .1); shut = λ e _. shut-at e }
+    record { no = no-at; yes = λ _. moved-none (a .rep) (s .pre .1); shut = λ e _. shut-at e }
 
 join-requires : tie.Need-join-requires
 join-requires c κs =
@@ -46,7 +46,7 @@ returns-2 c =
     let asks : Asks (a .n) T (a .rep) (a .c) (Parts (g .0 .0) (g .0 .1 .0)) = rw (g .1) at (q .differ .ensures) in
     record {
       no = λ e. absurd (true≢false e);
-      yes = λ _. moved-join (a .n) T (a .rep) (c .join .result) (a .c) (g .0 .0) (g .0 .1 .0) asks (c .join .ensures);
+      yes = λ _. moved-join (c .join .ensures) (c .join .ensures .kept) (asks .2) (asks .3);
       shut = λ _ e. absurd (true≢false e);
     }
 

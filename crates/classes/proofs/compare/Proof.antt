@@ -8,10 +8,10 @@ use Rattle.classes.proofs.compare.Statement.{statement}
 use Rattle.classes.proofs.compare.Tie as tie
 
 entry-requires : tie.Need-entry-requires
-entry-requires c κs = rows-short _ _ _ _ (c .pre) .0
+entry-requires c κs = rows-short (c .pre) .0
 
 entry-requires-2 : tie.Need-entry-requires-2
-entry-requires-2 c κs = rows-short _ _ _ _ (c .before .pre) .0
+entry-requires-2 c κs = rows-short (c .before .pre) .0
 
 returns : tie.Need-returns
 returns c =
@@ -24,16 +24,16 @@ returns c =
     (λ e. c .if1 .taken (e1 .entry .ensures ∙ e ∙ sym (e2 .entry2 .ensures)))
 
 entry-requires-3 : tie.Need-entry-requires-3
-entry-requires-3 c κs = rows-short _ _ _ _ (c .before .before .before .pre) .1
+entry-requires-3 c κs = rows-short (c .before .before .before .pre) .1
 
 entry-requires-4 : tie.Need-entry-requires-4
-entry-requires-4 c κs = rows-short _ _ _ _ (c .before .before .before .before .pre) .2
+entry-requires-4 c κs = rows-short (c .before .before .before .before .pre) .2
 
 entry-requires-5 : tie.Need-entry-requires-5
-entry-requires-5 c κs = rows-short _ _ _ _ (c .before .before .before .before .before .pre) .1
+entry-requires-5 c κs = rows-short (c .before .before .before .before .before .pre) .1
 
 entry-requires-6 : tie.Need-entry-requires-6
-entry-requires-6 c κs = rows-short _ _ _ _ (c .before .before .before .before .before .before .pre) .2
+entry-requires-6 c κs = rows-short (c .before .before .before .before .before .before .pre) .2
 
 fields-requires : tie.Need-fields-requires
 fields-requires c κs =

@@ -2,14 +2,14 @@
 use borrow.Author.Needs.{needs}
 use mathlib.Core.Path.{sym, _∙_}
 use lib.ListN.{getD}
-use Rattle.classes.proofs.CellLaws.{var-kind, kind-var}
+use Rattle.model.proofs.Stored.{var-kind, kind-var}
 use Rattle.classes.proofs.RowLaws.{rows-short}
 use Rattle.classes.proofs.SettleLaws.{told-asks}
 use Rattle.classes.proofs.differ.Statement.{statement}
 use Rattle.classes.proofs.differ.Tie as tie
 
 entry-requires : tie.Need-entry-requires
-entry-requires c κs = rows-short _ _ _ _ (c .pre .0) .0
+entry-requires c κs = rows-short (c .pre .0) .0
 
 returns : tie.Need-returns
 returns c =
@@ -29,7 +29,7 @@ returns-2 c =
     let e = q .before .before in
     let s = e .before in
     let a = s .args in
-    told-asks (a .n) (a .kind .now) (a .first .now) (a .second .now) (s .pre .0) (a .rep) (s .pre .1) (a .c)
+    told-asks (s .pre .0) (s .pre .1) (a .c)
     (λ v. q .before .if1 .left (e .entry .ensures ∙ var-kind (getD (a .kind .now) (a .c) 0) (getD (a .first .now) (a .c) 0) (getD (a .second .now) (a .c) 0) v)) (c .compare .result)
     (rw (q .class-of .ensures) at (c .compare .ensures))
 

@@ -2,7 +2,7 @@
 use borrow.Author.Needs.{needs}
 use native.Mathlib.Omega.{arith}
 use mathlib.Core.Path.{_≡_, sym, _∙_}
-use mathlib.Core.Bool.{true, false, true≢false, false≢true}
+use mathlib.Core.Bool.{true≢false, false≢true}
 use lib.ListN.{getD}
 use borrow.Author.Tests.{eqb-true, eqb-false, not-true, not-false}
 use Rattle.theory.specs.Cells.{On, classAt}
@@ -15,7 +15,7 @@ class-of-requires : tie.Need-class-of-requires
 class-of-requires c κs = search needs
 
 entry-requires : tie.Need-entry-requires
-entry-requires c κs = rows-short _ _ _ _ (c .before .pre) .0
+entry-requires c κs = rows-short (c .before .pre) .0
 
 returns : tie.Need-returns
 returns c =
@@ -30,7 +30,7 @@ returns c =
     (λ _. done-none (a .done) k f s (omega arith), λ x. absurd (true≢false x))
 
 entry-requires-2 : tie.Need-entry-requires-2
-entry-requires-2 c κs = rows-short _ _ _ _ (c .before .before .before .pre) .2
+entry-requires-2 c κs = rows-short (c .before .before .before .pre) .2
 
 marked-requires : tie.Need-marked-requires
 marked-requires c κs = search needs
@@ -67,7 +67,7 @@ returns-3 c =
     (λ _. done-app (a .done) k f s (sym kind ∙ c .if3 .taken) on, λ x. absurd (true≢false x))
 
 entry-requires-3 : tie.Need-entry-requires-3
-entry-requires-3 c κs = rows-short _ _ _ _ (c .before .before .before .before .before .before .before .pre) .1
+entry-requires-3 c κs = rows-short (c .before .before .before .before .before .before .before .pre) .1
 
 marked-requires-2 : tie.Need-marked-requires-2
 marked-requires-2 c κs = search needs

@@ -7,24 +7,22 @@ use Prim.Native.Nat.{ℕ}
 use Rattle.model.specs.Stored.{tableAt}
 use Rattle.theory.specs.Cells.{classAt}
 use Rattle.theory.specs.Classes.{Closed}
-use Rattle.classes.specs.Kept.{classCount}
+use Rattle.classes.specs.Kept.{Kept, classCount}
 use Rattle.classes.proofs.SettleLaws.{Stage, stage-none, stage-more, shut-closed}
 use Rattle.classes.proofs.settle.Statement.{statement}
 use Rattle.classes.proofs.settle.Tie as tie
 
 abbrev Inv-loop : tie.InvT-loop
-Inv-loop kind first second n rep₀ rep = Stage n (tableAt kind first second) rep₀ rep
+Inv-loop kind first second n rep₀ rep = Stage (tableAt kind first second) (Kept n (tableAt kind first second)) rep₀ rep
 
 abbrev μ-loop : tie.MeasureT-loop
 μ-loop kind first second n rep₀ rep = classCount rep
 
 loop-holds : tie.Need-loop-holds Inv-loop μ-loop
-loop-holds c =
-    let a = c .args in
-    stage-none (a .n) (tableAt (a .kind .now) (a .first .now) (a .second .now)) (a .start) (c .pre .1)
+loop-holds c = stage-none (c .pre .1)
 
 sweep-requires : tie.Need-sweep-requires Inv-loop μ-loop
-sweep-requires c κs = (c .before .pre .0, c .loop .inv .kept)
+sweep-requires c κs = (c .before .pre .0, c .loop .inv .holds)
 
 returns : tie.Need-returns Inv-loop μ-loop
 returns c =
@@ -49,12 +47,12 @@ returns-2 c =
     let good : q .sweep .result .ok ≡ true = not-false _ (i .if1 .left) in
     let quiet : q .sweep .result .changed ≡ false = not-true _ (c .if2 .taken) in
     let moved = q .sweep .ensures .yes good in
-    let stage = stage-more (a .n) T (a .start) (l .loop .rep) (q .sweep .result .rep) (q .sweep .result .changed) (l .loop .inv) moved in
+    let stage = stage-more (l .loop .inv) moved in
     record {
       no = λ e. absurd (true≢false e);
-      kept = λ _. stage .kept;
+      kept = λ _. stage .holds;
       closed = λ _. subst (λ (k : List ℕ). Closed T (classAt k)) (sym (moved .still quiet))
-          (shut-closed (a .n) (a .kind .now) (a .first .now) (a .second .now) (s .pre .0) (l .loop .rep) (l .loop .inv .kept) (q .sweep .ensures .shut good quiet));
+          (shut-closed (s .pre .0) (l .loop .inv .holds) (q .sweep .ensures .shut good quiet));
       sat = λ _. stage .sat;
       most = λ _. stage .most;
     }
@@ -68,10 +66,7 @@ loop-again : tie.Need-loop-again Inv-loop μ-loop
 loop-again c =
     let i = c .before .before .before in
     let q = i .before .before in
-    let l = q .before in
-    let a = l .before .args in
-    stage-more (a .n) (tableAt (a .kind .now) (a .first .now) (a .second .now)) (a .start) (l .loop .rep) (q .sweep .result .rep) (q .sweep .result .changed) (l .loop .inv)
-    (q .sweep .ensures .yes (not-false _ (i .if1 .left)))
+    stage-more (q .before .loop .inv) (q .sweep .ensures .yes (not-false _ (i .if1 .left)))
 
 pub settle-spec : {M : Type 1} → statement M
 settle-spec =

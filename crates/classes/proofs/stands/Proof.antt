@@ -10,10 +10,10 @@ use Rattle.classes.proofs.stands.Statement.{statement}
 use Rattle.classes.proofs.stands.Tie as tie
 
 entry-requires : tie.Need-entry-requires
-entry-requires c κs = rows-short _ _ _ _ (c .pre) .0
+entry-requires c κs = rows-short (c .pre) .0
 
 entry-requires-2 : tie.Need-entry-requires-2
-entry-requires-2 c κs = rows-short _ _ _ _ (c .before .pre) .0
+entry-requires-2 c κs = rows-short (c .before .pre) .0
 
 returns : tie.Need-returns
 returns c =

@@ -7,7 +7,7 @@ use lib.ListN.{length, length-set}
 use Rattle.model.specs.Stored.{tableAt}
 use Rattle.theory.specs.Cells.{classAt}
 use Rattle.classes.specs.Twins.{First}
-use Rattle.classes.proofs.RowLaws.{rows-beyond}
+use Rattle.theory.proofs.Rows.{rows-beyond}
 use Rattle.classes.proofs.TwinLaws.{firsts-more, firsts-all, firsts-start}
 use Rattle.classes.proofs.start.Statement.{statement}
 use Rattle.classes.proofs.start.Tie as tie
@@ -54,7 +54,7 @@ returns c =
     let s = l .before in
     let a = s .args in
     let T = tableAt (a .kind .now) (a .first .now) (a .second .now) in
-    let far = rows-beyond (a .n) (a .kind .now) (a .first .now) (a .second .now) (s .pre) in
+    let far = rows-beyond (s .pre) in
     firsts-start (a .n) T (s .pre .lower) (l .loop .rep) (l .loop .inv .0)
     (firsts-all T (s .pre .lower) (l .loop .rep) (λ i h. far i (omega (arith, s .pre .few))) (λ i h. l .loop .inv .2 i (omega arith)))
 

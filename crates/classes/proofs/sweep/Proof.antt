@@ -7,13 +7,13 @@ use mathlib.Core.Path.{_≡_, sym, _∙_}
 use mathlib.Core.Bool.{true, false, true≢false}
 use Rattle.model.specs.Stored.{tableAt}
 use Rattle.classes.specs.Kept.{classCount}
-use Rattle.classes.proofs.SettleLaws.{Turn, turn-none, turn-more, turn-stay, turn-no}
+use Rattle.classes.proofs.SettleLaws.{Sweeping, sweeping-none, sweeping-more, sweeping-stay, sweeping-no}
 use Rattle.classes.proofs.sweep.Statement.{statement}
 use Rattle.classes.proofs.sweep.Tie as tie
 
 abbrev Inv-loop : tie.InvT-loop
 Inv-loop kind first second n rep₀ changed₀ c₀ rep changed c =
-    Turn n (tableAt kind first second) rep₀ rep changed c × (c ≤ n + 1)
+    Sweeping n (tableAt kind first second) rep₀ rep changed c × (c ≤ n + 1)
 
 abbrev μ-loop : tie.MeasureT-loop
 μ-loop kind first second n rep₀ changed₀ c₀ rep changed c = classCount rep + c
@@ -22,9 +22,7 @@ add-c : tie.Need-add-c Inv-loop μ-loop
 add-c c = omega (arith, c .pre .0 .few)
 
 loop-holds : tie.Need-loop-holds Inv-loop μ-loop
-loop-holds c =
-    let a = c .args in
-    (turn-none (a .n) (tableAt (a .kind .now) (a .first .now) (a .second .now)) (a .start) (c .pre .1), search needs)
+loop-holds c = (sweeping-none (c .args .start) (c .pre .1), search needs)
 
 sub-bind : tie.Need-sub-bind Inv-loop μ-loop
 sub-bind c = omega arith
@@ -33,18 +31,15 @@ cast-bind : tie.Need-cast-bind Inv-loop μ-loop
 cast-bind c = omega (arith, c .before .before .pre .0 .few)
 
 bind-requires : tie.Need-bind-requires Inv-loop μ-loop
-bind-requires c κs = (c .before .before .pre .0, c .before .loop .inv .0 .moved .kept)
+bind-requires c κs = (c .before .before .pre .0, c .before .loop .inv .0 .moved .holds)
 
 returns : tie.Need-returns Inv-loop μ-loop
 returns c =
     let b = c .before .before in
     let l = b .before .before in
-    let s = l .before in
-    let a = s .args in
-    let T = tableAt (a .kind .now) (a .first .now) (a .second .now) in
     let bad : b .bind .result .ok ≡ false = not-true _ (c .if1 .taken) in
     record {
-      no = λ _. turn-no (a .n) T (a .start) (l .loop .rep) (l .loop .changed) (l .loop .c) (l .loop .inv .0) (b .bind .ensures .no bad);
+      no = λ _. sweeping-no (l .loop .inv .0) (b .bind .ensures .no bad);
       yes = λ e. absurd (true≢false (sym e ∙ bad));
       shut = λ e. absurd (true≢false (sym e ∙ bad));
     }
@@ -59,12 +54,7 @@ loop-again c =
     let e = c .before .before in
     let b = e .before .before in
     let l = b .before .before in
-    let a = l .before .args in
-    let v = l .loop in
-    let r = b .bind .result in
-    let T = tableAt (a .kind .now) (a .first .now) (a .second .now) in
-    let moved = b .bind .ensures .yes (not-false _ (e .if1 .left)) in
-    (turn-more (a .n) T (a .start) (v .rep) (v .changed) (v .c) (v .inv .0) (r .rep) (r .changed) moved (c .if2 .taken), omega arith)
+    (sweeping-more (l .loop .inv .0) (b .bind .ensures .yes (not-false _ (e .if1 .left))) (c .if2 .taken), omega arith)
 
 sub-c : tie.Need-sub-c Inv-loop μ-loop
 sub-c c = omega arith
@@ -79,13 +69,9 @@ loop-again-2 c =
     let e = c .before .before in
     let b = e .before .before in
     let l = b .before .before in
-    let a = l .before .args in
-    let v = l .loop in
-    let r = b .bind .result in
-    let T = tableAt (a .kind .now) (a .first .now) (a .second .now) in
-    let good : r .ok ≡ true = not-false _ (e .if1 .left) in
+    let good : b .bind .result .ok ≡ true = not-false _ (e .if1 .left) in
     let quiet = c .if2 .left in
-    (turn-stay (a .n) T (a .start) (v .rep) (v .changed) (v .c) (v .inv .0) (r .rep) (r .changed) (b .bind .ensures .yes good) quiet (b .bind .ensures .shut good quiet), omega arith)
+    (sweeping-stay (l .loop .inv .0) (b .bind .ensures .yes good) quiet (b .bind .ensures .shut good quiet), omega arith)
 
 returns-2 : tie.Need-returns-2 Inv-loop μ-loop
 returns-2 c =

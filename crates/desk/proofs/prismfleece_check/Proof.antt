@@ -1,6 +1,7 @@
 use mathlib.Core.Path.{sym, _∙_, ap, subst}
 use Rattle.desk.specs.Numbers.{checkNumber}
-use Rattle.desk.proofs.CheckLaws.{CheckSmall, check-small}
+use Rattle.desk.proofs.Told.{Fits}
+use Rattle.desk.proofs.CheckLaws.{told, check-fits}
 use borrow.Author.Needs.{needs}
 use Rattle.desk.proofs.prismfleece_check.Statement.{statement}
 use Rattle.desk.proofs.prismfleece_check.Tie as tie
@@ -14,7 +15,7 @@ enum-known-reply c = search needs
 refusal-requires : tie.Need-refusal-requires
 refusal-requires c κs =
     let e = c .before .before .before in
-    let s = subst CheckSmall (c .before .reply .given .1) (check-small _ _ (e .judge .result) (e .judge .ensures)) in
+    let s = subst (λ r. Fits (told r)) (c .before .reply .given .1) (check-fits _ _ (e .judge .result) (e .judge .ensures)) in
     s .1
 
 enum-told : tie.Need-enum-told

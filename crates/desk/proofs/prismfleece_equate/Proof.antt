@@ -1,7 +1,8 @@
 use mathlib.Core.Path.{sym, _∙_, ap, subst}
 use native.Mathlib.Omega.{arith}
 use Rattle.desk.specs.Numbers.{equateNumber}
-use Rattle.desk.proofs.EquateLaws.{EquateSmall, equate-small}
+use Rattle.desk.proofs.Told.{Fits}
+use Rattle.desk.proofs.EquateLaws.{told, equate-fits}
 use borrow.Author.Needs.{needs}
 use Rattle.desk.proofs.prismfleece_equate.Statement.{statement}
 use Rattle.desk.proofs.prismfleece_equate.Tie as tie
@@ -15,7 +16,7 @@ enum-known-reply c = search needs
 refusal-requires : tie.Need-refusal-requires
 refusal-requires c κs =
     let e = c .before .before .before .before .before in
-    let s = subst EquateSmall (c .before .reply .given .1) (equate-small _ _ _ _ (e .equate .result) _ (e .equate .ensures)) in
+    let s = subst (λ r. Fits (told r)) (c .before .reply .given .1) (equate-fits _ _ _ _ (e .equate .result) _ (e .equate .ensures)) in
     s .1
 
 enum-told : tie.Need-enum-told
@@ -27,7 +28,7 @@ enum-known-reply-2 c = search needs
 add-result : tie.Need-add-result
 add-result c =
     let e = c .before .before .before .before .before in
-    let s = subst EquateSmall (c .before .reply2 .given .1) (equate-small _ _ _ _ (e .equate .result) _ (e .equate .ensures)) in
+    let s = subst (λ r. Fits (told r)) (c .before .reply2 .given .1) (equate-fits _ _ _ _ (e .equate .result) _ (e .equate .ensures)) in
     omega (arith, s)
 
 same-length : tie.Need-same-length

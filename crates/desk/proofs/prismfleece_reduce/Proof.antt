@@ -1,7 +1,8 @@
 use mathlib.Core.Path.{sym, _∙_, ap, subst}
 use native.Mathlib.Omega.{arith}
 use Rattle.desk.specs.Numbers.{reduceNumber}
-use Rattle.desk.proofs.ReduceLaws.{ReduceSmall, reduce-small}
+use Rattle.desk.proofs.Told.{Fits}
+use Rattle.desk.proofs.ReduceLaws.{told, reduce-fits}
 use borrow.Author.Needs.{needs}
 use Rattle.desk.proofs.prismfleece_reduce.Statement.{statement}
 use Rattle.desk.proofs.prismfleece_reduce.Tie as tie
@@ -15,7 +16,7 @@ enum-known-reply c = search needs
 refusal-requires : tie.Need-refusal-requires
 refusal-requires c κs =
     let e = c .before .before .before .before .before in
-    let s = subst ReduceSmall (c .before .reply .given .1) (reduce-small _ _ (e .reduce .result) _ (e .reduce .ensures)) in
+    let s = subst (λ r. Fits (told r)) (c .before .reply .given .1) (reduce-fits _ _ (e .reduce .result) _ (e .reduce .ensures)) in
     s .1
 
 enum-known-reply-2 : tie.Need-enum-known-reply-2
@@ -24,7 +25,7 @@ enum-known-reply-2 c = search needs
 add-result : tie.Need-add-result
 add-result c =
     let e = c .before .before .before .before .before in
-    let s = subst ReduceSmall (c .before .reply2 .given .1) (reduce-small _ _ (e .reduce .result) _ (e .reduce .ensures)) in
+    let s = subst (λ r. Fits (told r)) (c .before .reply2 .given .1) (reduce-fits _ _ (e .reduce .result) _ (e .reduce .ensures)) in
     omega (arith, s)
 
 same-length : tie.Need-same-length

@@ -2,8 +2,8 @@
 use native.Mathlib.Omega.{arith}
 use denote.Ref.{now}
 use borrow.Author.Needs.{needs}
-use Rattle.model.specs.Format.{readFile}
-use Rattle.equating.proofs.PromiseLaws.{case-refused, case-accepted, table-kept, table-file, promise-refused, promise-accepted}
+use Rattle.casefile.proofs.CaseFile.{case-refused, case-accepted, case-rows}
+use Rattle.equating.proofs.PromiseLaws.{case-equated, promise-refused, promise-accepted}
 use Rattle.equating.proofs.equate.Statement.{statement}
 use Rattle.equating.proofs.equate.Tie as tie
 
@@ -22,8 +22,8 @@ equate-cells-requires c κs =
     let r = told .before .before .before in
     let s = r .before .before in
     let file = now (s .before .args .file) in
-    let (f, read, table) = case-accepted (readFile file) (r .read-case .result) (r .read-case .ensures) (told .enum-told .given .1) in
-    table-kept file f (r .read-case .result .table) (λ i. omega (arith, s .shared-slice-known .given i)) read table
+    let w = case-accepted file (r .read-case .result) (r .read-case .ensures) (told .enum-told .given .1) in
+    case-rows w (λ i. omega (arith, s .shared-slice-known .given i))
 
 returns : tie.Need-returns
 returns c =
@@ -31,7 +31,7 @@ returns c =
     let a = r .before .before .before .args in
     let file = now (a .file) in
     promise-refused file (a .a) (a .b) (now (a .out)) _ _
-    (case-refused (readFile file) (r .read-case .result) (r .read-case .ensures) _ _ (c .before .verdict .given .1))
+    (case-refused file (r .read-case .result) (r .read-case .ensures) _ _ (c .before .verdict .given .1))
 
 same-length : tie.Need-same-length
 same-length c = search needs
@@ -43,10 +43,9 @@ returns-2 c =
     let r = told .before .before .before in
     let a = r .before .before .before .args in
     let file = now (a .file) in
-    let t = r .read-case .result .table in
-    let (f, read, table) = case-accepted (readFile file) (r .read-case .result) (r .read-case .ensures) (told .enum-told .given .1) in
-    promise-accepted file (a .a) (a .b) (now (a .out)) f read (e .equate-cells .result) _
-    (table-file (a .a) (a .b) (now (a .out)) (e .equate-cells .result) _ f t table (e .equate-cells .ensures))
+    let w = case-accepted file (r .read-case .result) (r .read-case .ensures) (told .enum-told .given .1) in
+    promise-accepted file (a .a) (a .b) (now (a .out)) (w .f) (w .read) (e .equate-cells .result) _
+    (case-equated (a .a) (a .b) (now (a .out)) (e .equate-cells .result) _ w (e .equate-cells .ensures))
 
 pub equate-spec : {M : Type 1} → statement M
 equate-spec =

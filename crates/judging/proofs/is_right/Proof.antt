@@ -2,10 +2,11 @@
 use borrow.Author.Needs.{needs}
 use borrow.Author.Tests.{not-true, not-false}
 use mathlib.Core.Path.{subst}
-use mathlib.Core.Bool.{Bool, true, false, false≢true}
+use mathlib.Core.Bool.{Bool, false≢true}
 use Rattle.model.specs.Stored.{tableAt, runAt}
 use Rattle.judging.specs.Made.{AllMade}
-use Rattle.judging.proofs.RightLaws.{rows-own, inside-own, class-row, right-round, right-yes, right-no}
+use Rattle.knowledge.proofs.ClassRows.{kept-row}
+use Rattle.judging.proofs.RightLaws.{rows-own, inside-own, right-round, right-yes, right-no}
 use Rattle.judging.proofs.is_right.Statement.{statement}
 use Rattle.judging.proofs.is_right.Tie as tie
 
@@ -18,7 +19,7 @@ follow-requires c κs =
     let s = q .before .before in
     let a = s .args in
     let x = s .pre in
-    let form = x .1 .1 .1 .1 .1 in
+    let form = x .1 .1 .1 .1 in
     let o = q .put-own .ensures in (
       rows-own (a .n) (a .kind .now) (a .first .now) (a .second .now) (a .list .now) (q .put-own .result) (x .0) (x .1 .1 .0) form o,
       (form .size, inside-own (a .n) (a .kind .now) (a .first .now) (a .second .now) (a .list .now) (q .put-own .result) (x .0) (x .1 .1 .0) form o),
@@ -32,7 +33,7 @@ returns c =
     let a = s .args in
     let x = s .pre in (
       λ e. absurd (false≢true e),
-      λ _. right-round (a .n) (a .kind .now) (a .first .now) (a .second .now) (a .list .now) (q .put-own .result) (x .0) (x .1 .1 .0) (x .1 .1 .1 .1 .1) (q .put-own .ensures)
+      λ _. right-round (a .n) (a .kind .now) (a .first .now) (a .second .now) (a .list .now) (q .put-own .result) (x .0) (x .1 .1 .0) (x .1 .1 .1 .1) (q .put-own .ensures)
           (runAt (a .count) (a .asks .now) (a .aim .now)) (f .follow .result) (f .follow .ensures) (not-true _ (c .if1 .taken)),
     )
 
@@ -44,7 +45,7 @@ raise-requires c κs =
     let s = q .before .before in
     let a = s .args in
     let x = s .pre in (
-      rows-own (a .n) (a .kind .now) (a .first .now) (a .second .now) (a .list .now) (q .put-own .result) (x .0) (x .1 .1 .0) (x .1 .1 .1 .1 .1) (q .put-own .ensures),
+      rows-own (a .n) (a .kind .now) (a .first .now) (a .second .now) (a .list .now) (q .put-own .result) (x .0) (x .1 .1 .0) (x .1 .1 .1 .1) (q .put-own .ensures),
       f .follow .ensures .solved (not-false _ (i .if1 .left)),
     )
 
@@ -56,8 +57,8 @@ all-made-requires c κs =
     let s = q .before .before in
     let a = s .args in
     let x = s .pre in
-    let w = rows-own (a .n) (a .kind .now) (a .first .now) (a .second .now) (a .list .now) (q .put-own .result) (x .0) (x .1 .1 .0) (x .1 .1 .1 .1 .1) (q .put-own .ensures) in
-    (w, (class-row (a .n) (q .put-own .result) (a .first .now) (a .second .now) w (u .raise .result) (u .raise .ensures .solved), (x .1 .1 .1 .0, x .1 .1 .1 .1 .0)))
+    let w = rows-own (a .n) (a .kind .now) (a .first .now) (a .second .now) (a .list .now) (q .put-own .result) (x .0) (x .1 .1 .0) (x .1 .1 .1 .1) (q .put-own .ensures) in
+    (w, (kept-row w (u .raise .ensures .solved .kept), x .1 .1 .1 .0))
 
 returns-2 : tie.Need-returns-2
 returns-2 c =
@@ -70,10 +71,10 @@ returns-2 c =
     let x = s .pre in
     let ev = runAt (a .count) (a .asks .now) (a .aim .now) in
     let T = tableAt (q .put-own .result) (a .first .now) (a .second .now) in (
-      λ e. right-yes (a .n) (a .kind .now) (a .first .now) (a .second .now) (a .list .now) (q .put-own .result) (x .0) (x .1 .1 .0) (x .1 .1 .1 .1 .1) (q .put-own .ensures) ev
+      λ e. right-yes (a .n) (a .kind .now) (a .first .now) (a .second .now) (a .list .now) (q .put-own .result) (x .0) (x .1 .1 .0) (x .1 .1 .1 .1) (q .put-own .ensures) ev
           (f .follow .result) (f .follow .ensures) (not-false _ (i .if1 .left)) (u .raise .result) (u .raise .ensures)
           (subst (λ (b : Bool). AllMade T (u .raise .result) ev b) e (c .all-made .ensures)),
-      λ e. right-no (a .n) (a .kind .now) (a .first .now) (a .second .now) (a .list .now) (q .put-own .result) (x .0) (x .1 .1 .0) (x .1 .1 .1 .1 .1) (q .put-own .ensures) ev
+      λ e. right-no (a .n) (a .kind .now) (a .first .now) (a .second .now) (a .list .now) (q .put-own .result) (x .0) (x .1 .1 .0) (x .1 .1 .1 .1) (q .put-own .ensures) ev
           (f .follow .result) (f .follow .ensures) (not-false _ (i .if1 .left)) (u .raise .result) (u .raise .ensures)
           (subst (λ (b : Bool). AllMade T (u .raise .result) ev b) e (c .all-made .ensures)),
     )

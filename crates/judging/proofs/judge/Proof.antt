@@ -1,7 +1,9 @@
 -- Each reply by its law: the file's refusals, the length, the first entry of bad form, and whether the list is right.
 use native.Mathlib.Omega.{arith}
 use borrow.Author.Needs.{needs}
-use Rattle.judging.proofs.CaseLaws.{judged-refused, read-accepted, judged-few, judged-size, judged-form, judged-rows, judged-right, judged-wrong}
+use Rattle.casefile.proofs.CaseFile.{case-refused, case-accepted}
+use Rattle.judging.proofs.PromiseLaws.{promise-refused}
+use Rattle.judging.proofs.CaseLaws.{judged-few, judged-size, judged-form, judged-rows, judged-right, judged-wrong}
 use Rattle.judging.proofs.judge.Statement.{statement}
 use Rattle.judging.proofs.judge.Tie as tie
 
@@ -15,7 +17,7 @@ returns : tie.Need-returns
 returns c =
     let q = c .before .before .before in
     let a = q .before .before .before .args in
-    judged-refused (a .file .now) (a .list .now) (q .read-case .result) _ _ (q .read-case .ensures) (c .before .verdict .given .1)
+    promise-refused (a .file .now) (a .list .now) _ _ (case-refused (a .file .now) (q .read-case .result) (q .read-case .ensures) _ _ (c .before .verdict .given .1))
 
 enum-told : tie.Need-enum-told
 enum-told c = search needs
@@ -25,11 +27,8 @@ returns-2 c =
     let told = c .before .before .before in
     let q = told .before .before in
     let a = q .before .before .before .args in
-    let file = a .file .now in
-    let list = a .list .now in
-    let r = q .read-case .result in
-    let (f, e, i) = read-accepted file r (q .read-case .ensures) (told .enum-told .given .1) in
-    judged-size file list f e r i (c .if1 .taken)
+    let w = case-accepted (a .file .now) (q .read-case .result) (q .read-case .ensures) (told .enum-told .given .1) in
+    judged-size w (a .list .now) (c .if1 .taken)
 
 first-bad-requires : tie.Need-first-bad-requires
 first-bad-requires c κs =
@@ -37,11 +36,8 @@ first-bad-requires c κs =
     let told = one .before .before .before in
     let q = told .before .before in
     let a = q .before .before .before .args in
-    let file = a .file .now in
-    let list = a .list .now in
-    let r = q .read-case .result in
-    let (f, e, i) = read-accepted file r (q .read-case .ensures) (told .enum-told .given .1) in
-    (judged-few file list f e r i, one .if1 .left)
+    let w = case-accepted (a .file .now) (q .read-case .result) (q .read-case .ensures) (told .enum-told .given .1) in
+    (judged-few w (a .list .now), one .if1 .left)
 
 returns-3 : tie.Need-returns-3
 returns-3 c =
@@ -50,11 +46,8 @@ returns-3 c =
     let told = one .before .before .before in
     let q = told .before .before in
     let a = q .before .before .before .args in
-    let file = a .file .now in
-    let list = a .list .now in
-    let r = q .read-case .result in
-    let (f, e, i) = read-accepted file r (q .read-case .ensures) (told .enum-told .given .1) in
-    judged-form file list f e r i (one .if1 .left) (b .first-bad .result) (b .first-bad .ensures) (c .if2 .taken)
+    let w = case-accepted (a .file .now) (q .read-case .result) (q .read-case .ensures) (told .enum-told .given .1) in
+    judged-form w (a .list .now) (one .if1 .left) (b .first-bad .result) (b .first-bad .ensures) (c .if2 .taken)
 
 is-right-requires : tie.Need-is-right-requires
 is-right-requires c κs =
@@ -64,12 +57,9 @@ is-right-requires c κs =
     let told = one .before .before .before in
     let q = told .before .before in
     let a = q .before .before .before .args in
-    let file = a .file .now in
-    let list = a .list .now in
-    let r = q .read-case .result in
-    let (f, e, i) = read-accepted file r (q .read-case .ensures) (told .enum-told .given .1) in
-    judged-rows file list f e r i (λ k. omega (arith, q .before .before .shared-slice-known .given k)) (one .if1 .left) (b .first-bad .result) (b .first-bad .ensures)
-    (λ h. omega (arith, two .if2 .left))
+    let w = case-accepted (a .file .now) (q .read-case .result) (q .read-case .ensures) (told .enum-told .given .1) in
+    judged-rows w (a .list .now) (one .if1 .left) (b .first-bad .result) (b .first-bad .ensures) (omega (arith, two .if2 .left))
+    (λ k. omega (arith, q .before .before .shared-slice-known .given k))
 
 returns-4 : tie.Need-returns-4
 returns-4 c =
@@ -79,11 +69,8 @@ returns-4 c =
     let told = one .before .before .before in
     let q = told .before .before in
     let a = q .before .before .before .args in
-    let file = a .file .now in
-    let list = a .list .now in
-    let r = q .read-case .result in
-    let (f, e, i) = read-accepted file r (q .read-case .ensures) (told .enum-told .given .1) in
-    judged-right file list f e r i (one .if1 .left) (b .first-bad .result) (b .first-bad .ensures) (λ h. omega (arith, two .if2 .left)) (c .before .is-right .ensures .0 (c .if3 .taken))
+    let w = case-accepted (a .file .now) (q .read-case .result) (q .read-case .ensures) (told .enum-told .given .1) in
+    judged-right w (a .list .now) (one .if1 .left) (b .first-bad .result) (b .first-bad .ensures) (omega (arith, two .if2 .left)) (c .before .is-right .ensures .0 (c .if3 .taken))
 
 returns-5 : tie.Need-returns-5
 returns-5 c =
@@ -93,11 +80,8 @@ returns-5 c =
     let told = one .before .before .before in
     let q = told .before .before in
     let a = q .before .before .before .args in
-    let file = a .file .now in
-    let list = a .list .now in
-    let r = q .read-case .result in
-    let (f, e, i) = read-accepted file r (q .read-case .ensures) (told .enum-told .given .1) in
-    judged-wrong file list f e r i (one .if1 .left) (b .first-bad .result) (b .first-bad .ensures) (λ h. omega (arith, two .if2 .left)) (c .before .is-right .ensures .1 (c .if3 .left))
+    let w = case-accepted (a .file .now) (q .read-case .result) (q .read-case .ensures) (told .enum-told .given .1) in
+    judged-wrong w (a .list .now) (one .if1 .left) (b .first-bad .result) (b .first-bad .ensures) (omega (arith, two .if2 .left)) (c .before .is-right .ensures .1 (c .if3 .left))
 
 pub judge-spec : {M : Type 1} → statement M
 judge-spec =

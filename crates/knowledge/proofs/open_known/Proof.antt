@@ -5,8 +5,9 @@ use mathlib.Core.Path.{subst}
 use borrow.Author.Tests.{not-true, not-false}
 use Rattle.model.specs.Case.{Table}
 use Rattle.model.specs.Stored.{tableAt}
+use Rattle.theory.proofs.Rows.{rows-beyond}
 use Rattle.knowledge.specs.Sweeps.{missing, Turned}
-use Rattle.knowledge.proofs.Closing.{Between, between-none, between-turn, beyond-cell, opened}
+use Rattle.knowledge.proofs.Closing.{Between, between-none, between-turn, opened}
 use Rattle.knowledge.proofs.open_known.Statement.{statement}
 use Rattle.knowledge.proofs.open_known.Tie as tie
 
@@ -36,7 +37,7 @@ returns c =
     let o = t .before .before in
     let s = o .before in
     let r = t .sweep .result in
-    opened (table s) (s .pre .1 .0) (beyond-cell (s .pre .0)) (o .own-marks .ensures) (l .inv)
+    opened (table s) (s .pre .1 .0) (rows-beyond (s .pre .0)) (o .own-marks .ensures) (l .inv)
     (subst (λ (ch : Bool). Turned (table s) (s .args .n) (s .args .rep .now) (l .s) (l .b) (r .seen) (r .built) ch) (not-true _ (c .if1 .taken)) (t .sweep .ensures))
 
 loop-less : tie.Need-loop-less Inv-loop μ-loop

@@ -5,8 +5,9 @@ use native.Mathlib.Omega.{arith}
 use borrow.Author.Needs.{needs}
 use Rattle.theory.specs.Cells.{Rows}
 use Rattle.casefile.specs.declared.Case.{Case}
+use Rattle.casefile.proofs.CaseFile.{CaseFile, case-refused, case-accepted, case-variable, case-rows, case-events}
 use Rattle.reducing.proofs.PromiseLaws.{promise-refused, promise-variable}
-use Rattle.reducing.proofs.CaseLaws.{CaseFile, case-refused, case-accepted, case-variable, case-rows, case-solid, case-events, answer-short, answer-reduced}
+use Rattle.reducing.proofs.CaseLaws.{case-solid, answer-short, answer-reduced}
 use Rattle.reducing.proofs.reduce.Statement.{statement}
 use Rattle.reducing.proofs.reduce.Tie as tie
 
@@ -49,7 +50,7 @@ returns-2 : tie.Need-returns-2
 returns-2 c =
     let d = c .before .before .before in
     let r = d .before .before in
-    promise-variable (bytes r) (buffer r) (case d .f) (case d .reads) _ (case-variable (case d) _ (c .before .variable .given .1))
+    promise-variable (bytes r) (buffer r) (case d .f) (case d .read) _ (case-variable (case d) _ (c .before .variable .given .1))
 
 enum-told-2 : tie.Need-enum-told-2
 enum-told-2 c = search needs

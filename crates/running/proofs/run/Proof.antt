@@ -1,7 +1,7 @@
 use native.Mathlib.Omega.{arith}
 use denote.Ref.{now}
-use Rattle.model.specs.Format.{readFile}
-use Rattle.running.proofs.PromiseLaws.{case-refused, case-accepted, kept-rows, kept-below, kept-formed, kept-run, promise-refused, promise-accepted}
+use Rattle.casefile.proofs.CaseFile.{case-refused, case-accepted, case-rows, case-events}
+use Rattle.running.proofs.PromiseLaws.{case-formed, case-ran, promise-refused, promise-accepted}
 use borrow.Author.Needs.{needs}
 use Rattle.running.proofs.run.Statement.{statement}
 use Rattle.running.proofs.run.Tie as tie
@@ -21,17 +21,15 @@ run-cells-requires c κs =
     let r = told .before .before .before .before in
     let s = r .before .before in
     let file = now (s .before .args .file) in
-    let t = r .read-case .result .table in
-    let e = r .read-case .result .events in
-    let k = case-accepted (readFile file) (r .read-case .result) (r .read-case .ensures) (told .enum-told .given .1) in
-    (kept-rows file t e k (λ i. omega (arith, s .shared-slice-known .given i)), (kept-below file t e k, kept-formed file t e k))
+    let w = case-accepted file (r .read-case .result) (r .read-case .ensures) (told .enum-told .given .1) in
+    (case-rows w (λ i. omega (arith, s .shared-slice-known .given i)), (case-events w, case-formed w))
 
 returns : tie.Need-returns
 returns c =
     let r = c .before .before .before .before .before in
     let a = r .before .before .before .args in
     let file = now (a .file) in
-    promise-refused file (now (a .out)) _ _ (case-refused (readFile file) (r .read-case .result) (r .read-case .ensures) _ _ (c .before .verdict .given .1))
+    promise-refused file (now (a .out)) _ _ (case-refused file (r .read-case .result) (r .read-case .ensures) _ _ (c .before .verdict .given .1))
 
 same-length : tie.Need-same-length
 same-length c = search needs
@@ -43,11 +41,9 @@ returns-2 c =
     let r = told .before .before .before .before in
     let s = r .before .before in
     let file = now (s .before .args .file) in
-    let t = r .read-case .result .table in
-    let e = r .read-case .result .events in
-    let k = case-accepted (readFile file) (r .read-case .result) (r .read-case .ensures) (told .enum-told .given .1) in
+    let w = case-accepted file (r .read-case .result) (r .read-case .ensures) (told .enum-told .given .1) in
     let out = now (s .before .args .out) in
-    promise-accepted file out (k .f) (k .read) (q .run-cells .result) _ (kept-run file t e k out (q .run-cells .result) _ (q .run-cells .ensures))
+    promise-accepted file out (w .f) (w .read) (q .run-cells .result) _ (case-ran w out (q .run-cells .result) _ (q .run-cells .ensures))
 
 pub run-spec : {M : Type 1} → statement M
 run-spec =

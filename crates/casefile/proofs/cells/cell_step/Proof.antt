@@ -1,7 +1,8 @@
 use mathlib.Core.Path.{sym, _∙_, subst}
 use denote.Ref.{now}
 use lib.ListN.{drop}
-use Rattle.casefile.proofs.CellLaws.{Means, means, events-begun, fault-says}
+use Rattle.casefile.proofs.TestLaws.{Means, means}
+use Rattle.casefile.proofs.CellLaws.{events-begun, fault-says}
 use borrow.Author.Needs.{needs}
 use Rattle.casefile.proofs.cells.cell_step.Statement.{statement}
 use Rattle.casefile.proofs.cells.cell_step.Tie as tie

@@ -4,7 +4,7 @@ use native.Mathlib.Omega.{arith}
 use denote.Ref.{now}
 use lib.ListN.{drop}
 use borrow.Author.Needs.{needs}
-use Rattle.casefile.specs.Cells.{cellSays, Next, sizeOf}
+use Rattle.casefile.specs.Cells.{cellSays}
 use Rattle.casefile.proofs.CellLoop.{CellsSoFar, cells-start, cells-events, cells-refused, cells-next, step-fits}
 use Rattle.casefile.proofs.cells.read_cells.Statement.{statement}
 use Rattle.casefile.proofs.cells.read_cells.Tie as tie

@@ -1,5 +1,5 @@
 use mathlib.Core.Path.{refl}
-use borrow.Author.Tests.{lt-ltb, le-ltb, le-leb, lt-leb, eq-eqb, ne-eqb}
+use borrow.Author.Tests.{eq-eqb, ne-eqb}
 use Rattle.model.proofs.Pick.{yes, no}
 use Rattle.casefile.proofs.cells.size_of.Statement.{statement}
 use Rattle.casefile.proofs.cells.size_of.Tie as tie

@@ -1,7 +1,8 @@
 use mathlib.Core.Path.{sym, _∙_, subst}
 use denote.Ref.{now}
 use lib.ListN.{drop}
-use Rattle.casefile.proofs.CellLaws.{Means, means, fault-says}
+use Rattle.casefile.proofs.TestLaws.{Means, means}
+use Rattle.casefile.proofs.CellLaws.{fault-says}
 use Rattle.casefile.proofs.EventLaws.{says-late}
 use borrow.Author.Needs.{needs}
 use Rattle.casefile.proofs.events.event_step.Statement.{statement}

@@ -2,9 +2,9 @@ use Prim.Native.Nat.{suc, _-_}
 use lib.ListN.{set}
 use borrow.Author.Needs.{needs}
 use native.Mathlib.Omega.{arith}
-use mathlib.Core.Path.{_≡_, sym, _∙_, subst}
+use mathlib.Core.Path.{_≡_, subst}
 use denote.Ref.{now}
-use lib.ListN.{length, length-set}
+use lib.ListN.{length-set}
 use Rattle.model.specs.Stored.{tableAt}
 use Rattle.casefile.proofs.WithinLaws.{Descent, descent-start, descent-marked, descent-passed, within-marked}
 use Rattle.casefile.proofs.events.mark_within.Statement.{statement}

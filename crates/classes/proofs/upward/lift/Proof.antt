@@ -1,4 +1,4 @@
--- The loop's invariant: the classes have climbed by joins of cells that are alike, and if by none, the cells below c have met their twins.
+-- The loop's invariant: the classes have moved by joins of cells that are alike, and if by none, the cells below c have met their twins.
 use native.Mathlib.Omega.{arith}
 use Prim.Native.Nat.{_≤_, _-_}
 use mathlib.Core.Path.{_≡_, subst}
@@ -16,15 +16,13 @@ abbrev μ-loop : tie.MeasureT-loop
 μ-loop kind first second n rep₀ changed₀ c₀ rep changed c = n - c
 
 loop-holds : tie.Need-loop-holds Inv-loop μ-loop
-loop-holds c =
-    let a = c .args in
-    (lifts-none (a .n) (tableAt (a .kind .now) (a .first .now) (a .second .now)) (a .start) (c .pre .1), omega arith)
+loop-holds c = (lifts-none (c .pre .1), omega arith)
 
 cast-meet : tie.Need-cast-meet Inv-loop μ-loop
 cast-meet c = omega (arith, c .before .before .pre .0 .few)
 
 meet-requires : tie.Need-meet-requires Inv-loop μ-loop
-meet-requires c κs = (c .before .before .pre .0, (c .before .loop .inv .0 .climbs .solved, omega arith))
+meet-requires c κs = (c .before .before .pre .0, (c .before .loop .inv .0 .moved .holds, omega arith))
 
 add-c : tie.Need-add-c Inv-loop μ-loop
 add-c c = omega arith
@@ -35,10 +33,7 @@ loop-less c = omega arith
 loop-again : tie.Need-loop-again Inv-loop μ-loop
 loop-again c =
     let q = c .before .before in
-    let l = q .before .before in
-    let a = l .before .args in
-    let v = l .loop in
-    (lifts-more (a .n) (tableAt (a .kind .now) (a .first .now) (a .second .now)) (a .start) (v .rep) (v .changed) (v .c) (v .inv .0) (q .meet .result) (q .meet .ensures) (c .if1 .taken), omega arith)
+    (lifts-more (q .before .before .loop .inv .0) (q .meet .ensures) (c .if1 .taken), omega arith)
 
 loop-less-2 : tie.Need-loop-less-2 Inv-loop μ-loop
 loop-less-2 c = omega arith
@@ -46,10 +41,7 @@ loop-less-2 c = omega arith
 loop-again-2 : tie.Need-loop-again-2 Inv-loop μ-loop
 loop-again-2 c =
     let q = c .before .before in
-    let l = q .before .before in
-    let a = l .before .args in
-    let v = l .loop in
-    (lifts-stay (a .n) (tableAt (a .kind .now) (a .first .now) (a .second .now)) (a .start) (v .rep) (v .changed) (v .c) (v .inv .0) (q .meet .result) (q .meet .ensures) (c .if1 .left), omega arith)
+    (lifts-stay (q .before .before .loop .inv .0) (q .meet .ensures) (c .if1 .left), omega arith)
 
 returns : tie.Need-returns Inv-loop μ-loop
 returns c =

@@ -7,24 +7,23 @@ use Prim.Native.Nat.{ℕ}
 use Rattle.model.specs.Stored.{tableAt}
 use Rattle.theory.specs.Cells.{classAt}
 use Rattle.theory.specs.Classes.{Alike}
-use Rattle.classes.specs.Kept.{classCount}
-use Rattle.classes.proofs.UpwardLaws.{Rise, rise-none, rise-more, met-up}
+use Rattle.classes.specs.Kept.{classCount, Solved}
+use Rattle.classes.proofs.SettleLaws.{Stage, stage-none, stage-more}
+use Rattle.classes.proofs.UpwardLaws.{met-up}
 use Rattle.classes.proofs.upward.raise.Statement.{statement}
 use Rattle.classes.proofs.upward.raise.Tie as tie
 
 abbrev Inv-loop : tie.InvT-loop
-Inv-loop kind first second n rep₀ rep = Rise n (tableAt kind first second) rep₀ rep
+Inv-loop kind first second n rep₀ rep = Stage (tableAt kind first second) (Solved n (tableAt kind first second)) rep₀ rep
 
 abbrev μ-loop : tie.MeasureT-loop
 μ-loop kind first second n rep₀ rep = classCount rep
 
 loop-holds : tie.Need-loop-holds Inv-loop μ-loop
-loop-holds c =
-    let a = c .args in
-    rise-none (a .n) (tableAt (a .kind .now) (a .first .now) (a .second .now)) (a .start) (c .pre .1)
+loop-holds c = stage-none (c .pre .1)
 
 lift-requires : tie.Need-lift-requires Inv-loop μ-loop
-lift-requires c κs = (c .before .pre .0, c .loop .inv .solved)
+lift-requires c κs = (c .before .pre .0, c .loop .inv .holds)
 
 returns : tie.Need-returns Inv-loop μ-loop
 returns c =
@@ -35,25 +34,23 @@ returns c =
     let T = tableAt (a .kind .now) (a .first .now) (a .second .now) in
     let r = q .lift .result in
     let quiet : r .changed ≡ false = not-true _ (c .if1 .taken) in
-    let climbs = q .lift .ensures .climbs in
-    let rise = rise-more (a .n) T (a .start) (l .loop .rep) (r .rep) (r .changed) (l .loop .inv) climbs in
+    let moved = q .lift .ensures .moved in
+    let stage = stage-more (l .loop .inv) moved in
     record {
-      solved = rise .solved;
-      sat = rise .sat;
-      most = rise .most;
-      up = subst (λ (k : List ℕ). (x y : ℕ) → Alike (classAt k) (T x) (T y) → classAt k x ≡ classAt k y) (sym (climbs .still quiet))
-          (met-up (a .n) (a .kind .now) (a .first .now) (a .second .now) (s .pre .0) (l .loop .rep) (l .loop .inv .solved .kept) (q .lift .ensures .met quiet));
+      solved = stage .holds;
+      sat = stage .sat;
+      most = stage .most;
+      up = subst (λ (k : List ℕ). (x y : ℕ) → Alike (classAt k) (T x) (T y) → classAt k x ≡ classAt k y) (sym (moved .still quiet))
+          (met-up (s .pre .0) (l .loop .inv .holds .kept) (q .lift .ensures .met quiet));
     }
 
 loop-less : tie.Need-loop-less Inv-loop μ-loop
-loop-less c = c .before .before .before .lift .ensures .climbs .fewer (not-false _ (c .if1 .left))
+loop-less c = c .before .before .before .lift .ensures .moved .fewer (not-false _ (c .if1 .left))
 
 loop-again : tie.Need-loop-again Inv-loop μ-loop
 loop-again c =
     let q = c .before .before .before in
-    let l = q .before in
-    let a = l .before .args in
-    rise-more (a .n) (tableAt (a .kind .now) (a .first .now) (a .second .now)) (a .start) (l .loop .rep) (q .lift .result .rep) (q .lift .result .changed) (l .loop .inv) (q .lift .ensures .climbs)
+    stage-more (q .before .loop .inv) (q .lift .ensures .moved)
 
 pub raise-spec : {M : Type 1} → statement M
 raise-spec = tie.close (tie.spec Inv-loop μ-loop loop-holds lift-requires returns loop-less loop-again)

@@ -6,12 +6,13 @@ use native.Mathlib.Omega.{arith}
 use lib.ListN.{getD}
 use borrow.Author.Needs.{needs}
 use Rattle.model.specs.Stored.{runAt}
+use Rattle.model.proofs.Stored.{run-make, run-learn}
 use Rattle.theory.specs.Cells.{On}
 use Rattle.knowledge.specs.Knowledge.{Marked}
 use Rattle.knowledge.proofs.Grow.{noMarks, none-marked}
-use Rattle.wants.proofs.StartLaws.{fewer-below, below-upto}
-use Rattle.hopeless.proofs.MeetLaws.{kept-row}
-use Rattle.hopeless.proofs.HopeLaws.{run-make, run-learn, Heard, heard-none, heard-more, heard-make, heard-learn, hopeless-at}
+use Rattle.wants.proofs.StartLaws.{fewer-events}
+use Rattle.knowledge.proofs.ClassRows.{kept-row}
+use Rattle.hopeless.proofs.HopeLaws.{Heard, heard-none, heard-more, heard-make, heard-learn, hopeless-at}
 use Rattle.hopeless.proofs.hopes.hopeless.Statement.{statement}
 use Rattle.hopeless.proofs.hopes.hopeless.Tie as tie
 
@@ -39,7 +40,7 @@ dream-requires c κs =
     let c3 = c .before .before .before in
     let s = c3 .before .before .before in
     let l = c3 .loop in
-    (s .pre .0, (s .pre .1 .1 .1 .kept, (fewer-below (below-upto (s .pre .1 .0) (c .before .before .loop-test .taken)), (l .inv .1, l .inv .2))))
+    (s .pre .0, (s .pre .1 .1 .1 .kept, (fewer-events (s .pre .1 .0) (l .inv .4), (l .inv .1, l .inv .2))))
 
 element-copy-out-lacks : tie.Need-element-copy-out-lacks Inv-loop μ-loop
 element-copy-out-lacks c =

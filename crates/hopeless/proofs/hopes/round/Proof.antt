@@ -2,7 +2,8 @@
 use mathlib.Core.Path.{_≡_}
 use lib.ListN.{length}
 use borrow.Author.Needs.{needs}
-use Rattle.hopeless.proofs.MeetLaws.{kept-row}
+use Rattle.model.specs.Stored.{tableAt}
+use Rattle.knowledge.proofs.ClassRows.{kept-row}
 use Rattle.hopeless.proofs.HopeLaws.{rounded-turn, rounded-equal, rounded-leak}
 use Rattle.hopeless.proofs.hopes.round.Statement.{statement}
 use Rattle.hopeless.proofs.hopes.round.Tie as tie
@@ -33,7 +34,8 @@ returns-2 : tie.Need-returns-2
 returns-2 c =
     let c7 = c .before .before .before .before .before .before .before in
     let c9 = c7 .before .before in
-    rounded-equal (c7 .sweep .ensures) (long-seen c9) (long-seen-swept c7) (long-built c9) (long-built-swept c7) (c .before .before .equal .ensures) (c .if2 .taken)
+    let a = c9 .args in
+    rounded-equal {T = tableAt (a .kind .now) (a .first .now) (a .second .now)} (c7 .sweep .ensures) (long-seen c9) (long-seen-swept c7) (long-built c9) (long-built-swept c7) (c .before .before .equal .ensures) (c .if2 .taken)
 
 leaked-requires : tie.Need-leaked-requires
 leaked-requires c κs =
@@ -47,7 +49,8 @@ returns-3 c =
     let c9 = c8 .before in
     let c11 = c9 .before .before in
     let t = c9 in
-    rounded-leak (t .sweep .ensures) (long-seen c11) (long-seen-swept t) (long-built c11) (long-built-swept t) (c4 .equal .ensures) (c8 .if1 .left) (c .before .before .if2 .left)
+    let a = c11 .args in
+    rounded-leak {T = tableAt (a .kind .now) (a .first .now) (a .second .now)} (t .sweep .ensures) (long-seen c11) (long-seen-swept t) (long-built c11) (long-built-swept t) (c4 .equal .ensures) (c8 .if1 .left) (c .before .before .if2 .left)
     (c .before .leaked .ensures)
 
 pub round-spec : {M : Type 1} → statement M

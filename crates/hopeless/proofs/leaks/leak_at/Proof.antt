@@ -2,7 +2,7 @@
 use borrow.Author.Tests.{not-true, not-false}
 use borrow.Author.Needs.{needs}
 use Rattle.model.specs.Stored.{tableAt}
-use Rattle.hopeless.proofs.MeetLaws.{kept-row}
+use Rattle.knowledge.proofs.ClassRows.{kept-row}
 use Rattle.hopeless.proofs.LeakLaws.{leak-never, leak-left, leak-right, leak-dark}
 use Rattle.hopeless.proofs.leaks.leak_at.Statement.{statement}
 use Rattle.hopeless.proofs.leaks.leak_at.Tie as tie
@@ -36,10 +36,7 @@ returns c =
     (x .result .left) (x .result .right) (y .result .left) (y .result .right) (x .ensures) (y .ensures) (c3 .bright .ensures .yes (c .before .before .if1 .taken))
 
 returns-2 : tie.Need-returns-2
-returns-2 c =
-    let s = c .before .before .before .before .before .before .before .before in
-    let a = s .args in
-    leak-never (tableAt (a .kind .now) (a .first .now) (a .second .now)) (kept-row (s .pre .0) (s .pre .1 .0)) (a .held .now) (a .seen .now) (a .c) (a .d) (c .before .may .ensures (c .if2 .left))
+returns-2 c = leak-never (c .before .may .ensures (c .if2 .left))
 
 bright-requires-2 : tie.Need-bright-requires-2
 bright-requires-2 c κs = search needs
@@ -73,10 +70,7 @@ returns-4 c =
     (x .result .left) (x .result .right) (y .result .left) (y .result .right) (x .ensures) (y .ensures) (c3 .bright2 .ensures .yes (not-false _ (c .before .before .if3 .left)))
 
 returns-5 : tie.Need-returns-5
-returns-5 c =
-    let s = c .before .before .before .before .before .before .before .before .before .before in
-    let a = s .args in
-    leak-never (tableAt (a .kind .now) (a .first .now) (a .second .now)) (kept-row (s .pre .0) (s .pre .1 .0)) (a .held .now) (a .seen .now) (a .c) (a .d) (c .before .may2 .ensures (c .if4 .left))
+returns-5 c = leak-never (c .before .may2 .ensures (c .if4 .left))
 
 pub leak-at-spec : {M : Type 1} → statement M
 leak-at-spec =

@@ -1,12 +1,13 @@
 -- The sets, and what leaks by them.
 use borrow.Author.Needs.{needs}
-use Rattle.hopeless.proofs.MeetLaws.{kept-row}
+use Rattle.model.specs.Stored.{tableAt}
+use Rattle.knowledge.proofs.ClassRows.{kept-row}
 use Rattle.hopeless.proofs.LeakLaws.{leaked-all}
 use Rattle.hopeless.proofs.leaks.leaked.Statement.{statement}
 use Rattle.hopeless.proofs.leaks.leaked.Tie as tie
 
-held-row-requires : tie.Need-held-row-requires
-held-row-requires c κs = let s = c .before .before in (s .pre .0, (kept-row (s .pre .0) (s .pre .1 .0), s .pre .1 .1 .1))
+holds-requires : tie.Need-holds-requires
+holds-requires c κs = let s = c .before .before in (s .pre .0, (kept-row (s .pre .0) (s .pre .1 .0), s .pre .1 .1 .1))
 
 over-row-requires : tie.Need-over-row-requires
 over-row-requires c κs =
@@ -19,7 +20,8 @@ returns : tie.Need-returns
 returns c =
     let c3 = c .before .before .before in
     let c6 = c3 .before .before .before in
-    leaked-all (c6 .held-row .ensures) (c3 .over-row .ensures) (c .leak .ensures)
+    let a = c6 .before .before .before .args in
+    leaked-all {T = tableAt (a .kind .now) (a .first .now) (a .second .now)} (c6 .holds .ensures) (c3 .over-row .ensures) (c .leak .ensures)
 
 pub leaked-spec : {M : Type 1} → statement M
-leaked-spec = tie.close (tie.spec held-row-requires over-row-requires leak-requires returns)
+leaked-spec = tie.close (tie.spec holds-requires over-row-requires leak-requires returns)

@@ -2,14 +2,14 @@ use mathlib.Core.Path.{_≡_, sym, _∙_}
 use lib.ListN.{getD}
 use Rattle.model.specs.Case.{VA}
 use Rattle.model.specs.Stored.{tableAt}
-use Rattle.classes.proofs.CellLaws.{var-kind, kind-var}
+use Rattle.model.proofs.Stored.{var-kind, kind-var}
 use Rattle.classes.proofs.RowLaws.{rows-short}
 use Rattle.judging.proofs.FollowLaws.{binds-none, binds-join}
 use Rattle.judging.proofs.follow.bind_entry.Statement.{statement}
 use Rattle.judging.proofs.follow.bind_entry.Tie as tie
 
 entry-requires : tie.Need-entry-requires
-entry-requires c κs = rows-short _ _ _ _ (c .pre .0) .0
+entry-requires c κs = rows-short (c .pre .0) .0
 
 returns : tie.Need-returns
 returns c =

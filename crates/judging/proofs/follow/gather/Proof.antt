@@ -2,7 +2,7 @@
 use native.Mathlib.Omega.{arith}
 use Prim.Native.Nat.{_≤_, _-_}
 use Rattle.model.specs.Stored.{tableAt}
-use Rattle.classes.proofs.RowLaws.{rows-var}
+use Rattle.theory.proofs.Rows.{rows-var}
 use Rattle.judging.proofs.FollowLaws.{Gathering, gathering-none, gathering-more, gathering-all}
 use Rattle.judging.proofs.follow.gather.Statement.{statement}
 use Rattle.judging.proofs.follow.gather.Tie as tie
@@ -52,7 +52,7 @@ returns c =
     let s = l .before .before .before in
     let a = s .args in
     gathering-all (a .n) (tableAt (a .kind .now) (a .first .now) (a .second .now)) (a .list .now) (l .loop .rep) (l .loop .c) (l .loop .inv .0)
-    (λ v i. let h = rows-var (a .n) (a .kind .now) (a .first .now) (a .second .now) (s .pre .0) v i in omega arith)
+    (λ v i. let h = rows-var (s .pre .0) v i in omega arith)
 
 pub gather-spec : {M : Type 1} → statement M
 gather-spec =

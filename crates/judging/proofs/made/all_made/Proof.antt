@@ -20,7 +20,7 @@ loop-holds c =
     making-none (tableAt (a .kind .now) (a .first .now) (a .second .now)) (c .pre .1 .0) (a .count) (a .asks .now) (a .aim .now)
 
 element-copy-out-step : tie.Need-element-copy-out-step Inv-loop μ-loop
-element-copy-out-step c = omega (arith, c .before .before .pre .1 .1 .0)
+element-copy-out-step c = omega (arith, c .before .before .pre .1 .1 .few)
 
 element-copy-out-step-2 : tie.Need-element-copy-out-step-2 Inv-loop μ-loop
 element-copy-out-step-2 c = search needs
@@ -29,7 +29,7 @@ step-requires : tie.Need-step-requires Inv-loop μ-loop
 step-requires c κs =
     let l = c .before .before .before in
     let s = l .before in
-    (s .pre .0, (s .pre .1 .0, (l .loop .inv .marked, omega (arith, s .pre .1 .1 .1 (l .loop .p) (omega arith), s .pre .0 .few))))
+    (s .pre .0, (s .pre .1 .0, (l .loop .inv .marked, omega (arith, s .pre .1 .1 .below (l .loop .p) (omega arith), s .pre .0 .few))))
 
 returns : tie.Need-returns Inv-loop μ-loop
 returns c =

@@ -33,7 +33,7 @@ learn-requires : tie.Need-learn-requires Inv-loop μ-loop
 learn-requires c κs =
     let l = c .before .before .before .before .before in
     let s = l .before in
-    (s .pre .1 .0, (l .loop .inv .0 .marked, omega (arith, c .cell .ensures, s .pre .1 .1 .inside (l .loop .p) (omega arith))))
+    (s .pre .1 .0, (l .loop .inv .0 .marked, omega (arith, c .cell .ensures, s .pre .1 .1 .below (l .loop .p) (omega arith))))
 
 add-p : tie.Need-add-p Inv-loop μ-loop
 add-p c = search needs

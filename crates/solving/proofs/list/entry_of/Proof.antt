@@ -1,20 +1,18 @@
 -- The entry of a cell goes by its kind.
-use mathlib.Core.Path.{refl, subst, sym}
+use mathlib.Core.Path.{refl, subst}
 use Prim.Native.Nat.{ℕ}
-use native.Mathlib.Omega.{arith}
 use borrow.Author.Needs.{needs}
 use Rattle.model.specs.Stored.{tableAt}
-use Rattle.knowledge.proofs.ByKind.{class-at}
 use Rattle.solving.specs.Listing.{Valued, Entered}
-use Rattle.solving.proofs.ListLaws.{kind-var, kind-solid}
+use Rattle.solving.proofs.ListLaws.{kind-free, kind-solid}
 use Rattle.solving.proofs.list.entry_of.Statement.{statement}
 use Rattle.solving.proofs.list.entry_of.Tie as tie
 
 element-copy-out-if1 : tie.Need-element-copy-out-if1
 element-copy-out-if1 c = search needs
 
-element-copy-out-value-of : tie.Need-element-copy-out-value-of
-element-copy-out-value-of c = search needs
+class-of-requires : tie.Need-class-of-requires
+class-of-requires c κs = search needs
 
 value-of-requires : tie.Need-value-of-requires
 value-of-requires c κs = search needs
@@ -25,8 +23,8 @@ returns c firsts seconds =
     let c4 = c2 .before .before in
     let s = c4 in
     let a = s .args in
-    Entered.value (kind-var (a .kind .now) firsts seconds (a .c) (c2 .if1 .taken))
-    (subst (λ (r : ℕ). Valued (tableAt (a .kind .now) firsts seconds) (a .n) r (c .value-of .result)) (sym (class-at (a .rep .now) (a .c) (omega (arith, s .pre))))
+    Entered.value (kind-free (a .kind .now) firsts seconds (a .c) (c2 .if1 .taken))
+    (subst (λ (r : ℕ). Valued (tableAt (a .kind .now) firsts seconds) (a .n) r (c .value-of .result)) (c .before .class-of .ensures)
     (c .value-of .ensures firsts seconds))
 
 cast-result : tie.Need-cast-result
@@ -43,7 +41,7 @@ entry-of-spec =
     tie.close
     (tie.spec
     element-copy-out-if1
-    element-copy-out-value-of
+    class-of-requires
     value-of-requires
     returns
     cast-result

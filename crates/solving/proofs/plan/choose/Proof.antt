@@ -5,7 +5,8 @@ use lib.ListN.{getD}
 use borrow.Author.Needs.{needs}
 use Rattle.model.specs.Stored.{tableAt, runAt}
 use Rattle.theory.specs.Cells.{classAt, On}
-use Rattle.solving.proofs.PlanLaws.{kept-row, planned-built, planned-new, planned-old}
+use Rattle.knowledge.proofs.ClassRows.{kept-row}
+use Rattle.solving.proofs.PlanLaws.{planned-built, planned-new, planned-old}
 use Rattle.solving.proofs.plan.choose.Statement.{statement}
 use Rattle.solving.proofs.plan.choose.Tie as tie
 
@@ -79,8 +80,7 @@ returns-4 c count x at w =
     let c2 = c .before .before in
     let c16 = c2 .before .before .before .before .before .before .before .before .before .before .before .before .before .before in
     let a = c16 .args in
-    planned-old (tableAt (a .kind .now) (a .first .now) (a .second .now)) (a .t5) (runAt count (a .ekind .now) (a .ecell .now)) (a .p) (a .best) w
-    (getD (a .ecell .now) (a .p) 0) at (c2 .if2 .left)
+    planned-old (tableAt (a .kind .now) (a .first .now) (a .second .now)) (a .t5) (runAt count (a .ekind .now) (a .ecell .now)) (a .p) (a .best) w (c2 .if2 .left)
 
 pub choose-spec : {M : Type 1} → statement M
 choose-spec =

@@ -5,10 +5,13 @@ use Prim.Native.Nat.{ℕ, _+_, _≤_, _-_}
 use native.Mathlib.Omega.{arith}
 use borrow.Author.Needs.{needs}
 use Rattle.model.specs.Stored.{tableAt, runAt}
-use Rattle.knowledge.specs.Knowledge.{Marked, Starts}
-use Rattle.solving.proofs.PlanLaws.{kept-row, run-make, run-learn, starts-none, starts-learn, starts-open, opened-exact, planned-none, planned-learn, planned-all, planned-enough}
-use Rattle.wants.proofs.StartLaws.{below-upto}
-use Rattle.wants.proofs.Rowing.{none-marked}
+use Rattle.model.proofs.Stored.{run-make, run-learn}
+use Rattle.knowledge.specs.Knowledge.{Marked, Learns, Starts}
+use Rattle.knowledge.proofs.Grow.{none-marked}
+use Rattle.knowledge.proofs.Start.{starts-none, starts-learn}
+use Rattle.knowledge.proofs.ClassRows.{kept-row}
+use Rattle.solving.proofs.PlanLaws.{starts-open, opened-exact, planned-none, planned-learn, planned-all, planned-enough}
+use Rattle.wants.proofs.StartLaws.{fewer-events}
 use Rattle.solving.specs.Plans.{Planned}
 use Rattle.solving.proofs.plan.plan.Statement.{statement}
 use Rattle.solving.proofs.plan.plan.Tie as tie
@@ -22,7 +25,7 @@ abbrev μ-loop : tie.MeasureT-loop
 
 loop-holds : tie.Need-loop-holds Inv-loop μ-loop
 loop-holds c = let a = c .args in (
-  starts-none (tableAt (a .kind .now) (a .first .now) (a .second .now)) (a .t5) (runAt (a .count) (a .ekind .now) (a .ecell .now)) (c .pre .1 .0 .reps .idem),
+  starts-none (tableAt (a .kind .now) (a .first .now) (a .second .now)) (kept-row (c .pre .0) (c .pre .1 .0)) (runAt (a .count) (a .ekind .now) (a .ecell .now)),
   none-marked,
   planned-none (tableAt (a .kind .now) (a .first .now) (a .second .now)) (a .t5) (runAt (a .count) (a .ekind .now) (a .ecell .now)) _ refl,
   omega arith,
@@ -44,7 +47,7 @@ choose-requires c κs =
     let c4 = c .before .before .before .before in
     let c8 = c4 .before .before .before .before in
     let c10 = c8 .before .before in
-    (c10 .pre .0, (c10 .pre .1 .0, (c4 .open-known .ensures .seen-marked, below-upto (c10 .pre .1 .1) (c8 .loop-test .taken))))
+    (c10 .pre .0, (c10 .pre .1 .0, (c4 .open-known .ensures .seen-marked, fewer-events (c10 .pre .1 .1) (omega (arith, c8 .loop-test .taken)))))
 
 enough-requires : tie.Need-enough-requires Inv-loop μ-loop
 enough-requires c κs = search needs
@@ -62,21 +65,25 @@ returns c =
     let at = run-make (a .count) (a .ekind .now) (a .ecell .now) (l .p) (c11 .loop-test .taken) (c9 .if1 .taken) in
     planned-enough (tableAt (a .kind .now) (a .first .now) (a .second .now)) (a .t5) (runAt (a .count) (a .ekind .now) (a .ecell .now)) (l .p + 1) (c2 .choose .result)
     (c2 .choose .ensures (a .count)
-    (opened-exact (tableAt (a .kind .now) (a .first .now) (a .second .now)) (a .t5) (runAt (a .count) (a .ekind .now) (a .ecell .now)) (c13 .pre .1 .0 .reps .idem) (l .p)
-    (l .m) (l .inv .0) (c7 .open-known .result) (c7 .open-known .ensures)) at (l .inv .2))
+    (opened-exact (tableAt (a .kind .now) (a .first .now) (a .second .now)) (kept-row (c13 .pre .0) (c13 .pre .1 .0)) (runAt (a .count) (a .ekind .now) (a .ecell .now))
+    (l .p) (l .inv .0) (c7 .open-known .ensures)) at (l .inv .2))
     (c .before .enough .ensures (c .if2 .taken))
 
-element-copy-out-learn : tie.Need-element-copy-out-learn Inv-loop μ-loop
-element-copy-out-learn c =
+element-copy-out-cell : tie.Need-element-copy-out-cell Inv-loop μ-loop
+element-copy-out-cell c =
     let c5 = c .before .before .before .before .before in
     omega (arith, c5 .pre .1 .1 .few)
 
+cell-requires : tie.Need-cell-requires Inv-loop μ-loop
+cell-requires c κs = search needs
+
 learn-requires : tie.Need-learn-requires Inv-loop μ-loop
 learn-requires c κs =
-    let c4 = c .before .before .before .before in
-    let c5 = c4 .before in
+    let c5 = c .before .before .before .before .before in
     let c6 = c5 .before in
-    (kept-row (c6 .pre .0) (c6 .pre .1 .0), omega (arith, c6 .pre .0 .few, c6 .pre .1 .1 .below (c5 .loop .p) (c4 .loop-test .taken)))
+    let c7 = c6 .before in
+    let l = c6 .loop in
+    (kept-row (c7 .pre .0) (c7 .pre .1 .0), (l .inv .1, omega (arith, c .cell .ensures, c7 .pre .0 .few, c7 .pre .1 .1 .below (l .p) (c5 .loop-test .taken))))
 
 add-p : tie.Need-add-p Inv-loop μ-loop
 add-p c =
@@ -95,26 +102,23 @@ loop-again c =
     let s = c4 in
     let l = c3 .loop in
     let h = c2 .loop-test .taken in
-    let T = (tableAt (a .kind .now) (a .first .now) (a .second .now)) in
-    let ev = (runAt (a .count) (a .ekind .now) (a .ecell .now)) in
-    let idem = s .pre .1 .0 .reps .idem in
+    let row = kept-row (s .pre .0) (s .pre .1 .0) in
     ⊎-elim
     (λ x.
     let at = run-make (a .count) (a .ekind .now) (a .ecell .now) (l .p) h (x .0 .taken) in
     rw (x .10, x .11) (
-      starts-open (tableAt (a .kind .now) (a .first .now) (a .second .now)) (a .t5) (runAt (a .count) (a .ekind .now) (a .ecell .now)) idem (l .p)
-          (l .m) (l .inv .0) (x .2 .result) (x .2 .ensures) _ at,
+      starts-open (tableAt (a .kind .now) (a .first .now) (a .second .now)) row (runAt (a .count) (a .ekind .now) (a .ecell .now)) (l .p) (l .inv .0) (x .2 .ensures) at,
       x .2 .ensures .seen-marked,
-      x .7 .ensures (a .count) (opened-exact (tableAt (a .kind .now) (a .first .now) (a .second .now)) (a .t5) (runAt (a .count) (a .ekind .now) (a .ecell .now)) idem
-          (l .p) (l .m) (l .inv .0) (x .2 .result) (x .2 .ensures)) at (l .inv .2),
+      x .7 .ensures (a .count) (opened-exact (tableAt (a .kind .now) (a .first .now) (a .second .now)) row (runAt (a .count) (a .ekind .now) (a .ecell .now))
+          (l .p) (l .inv .0) (x .2 .ensures)) at (l .inv .2),
       omega arith,
     ))
     (λ x.
     let at = run-learn (a .count) (a .ekind .now) (a .ecell .now) (l .p) h (x .0 .left) in
-    rw (x .4, x .5) (
-      starts-learn (tableAt (a .kind .now) (a .first .now) (a .second .now)) (a .t5) (runAt (a .count) (a .ekind .now) (a .ecell .now)) idem (l .p)
-          (l .m) (l .inv .0) _ _ at (x .3 .ensures),
-      x .3 .ensures .marked (l .inv .1),
+    rw (x .5, x .6) (
+      starts-learn (tableAt (a .kind .now) (a .first .now) (a .second .now)) row (runAt (a .count) (a .ekind .now) (a .ecell .now)) (l .p) (l .inv .0) _ at
+          (subst (λ (d : ℕ). Learns (a .t5) (l .m) d (x .4 .result)) (x .3 .ensures) (x .4 .ensures)),
+      x .4 .ensures .marked,
       planned-learn (tableAt (a .kind .now) (a .first .now) (a .second .now)) (a .t5)
           (runAt (a .count) (a .ekind .now) (a .ecell .now)) (l .p) (l .best) (l .inv .2) _ at,
       omega arith,
@@ -142,7 +146,8 @@ plan-spec =
     choose-requires
     enough-requires
     returns
-    element-copy-out-learn
+    element-copy-out-cell
+    cell-requires
     learn-requires
     add-p
     loop-less

@@ -1,5 +1,6 @@
 -- The measure is the number of classes, which each pair lowers. The invariant: no right values make a pair before the place of c and d equal.
-use mathlib.Core.Path.{refl}
+use mathlib.Core.Path.{_≡_, refl}
+use mathlib.Core.Bool.{true}
 use Prim.Native.Nat.{_+_, _≤_, _-_, ℕ, _<_}
 use native.Mathlib.Omega.{arith}
 use borrow.Author.Tests.{not-true, not-false}
@@ -120,7 +121,7 @@ search-search-requires t c κs =
     let c10 = c3 .before .before .before .before .before .before .before in
     let s = c10 in
     let h = c3 .next-child in
-    let ok = not-false _ (c .before .if2 .left) in
+    let ok : h .result .ok ≡ true = not-false _ (c .before .if2 .left) in
     (omega (arith, h .ensures .fewer ok, s .pre .0), (s .pre .1 .0, (s .pre .1 .1 .0, (s .pre .1 .1 .1 .0, h .ensures .solved ok))))
 
 search-returns-3 : (t : ℕ) → search-lts.Need-returns-3 (

@@ -1,3 +1,4 @@
+-- No at once where there is no hope; else what the search says, with the list of its classes.
 use mathlib.Core.Path.{refl}
 use Rattle.model.specs.Stored.{runAt}
 use Rattle.solving.proofs.SearchLaws.{solves, solves-none}

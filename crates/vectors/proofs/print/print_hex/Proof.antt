@@ -1,6 +1,5 @@
 -- `vectors::print::print_hex` is safe and ends. The measure is the number of bytes that are left to print. Assumes nothing.
 use Prim.Native.Nat.{_≤_, _-_}
-use lib.ListN.{length}
 use borrow.Author.Needs.{needs}
 use Rattle.vectors.proofs.print.print_hex.Statement.{statement}
 use Rattle.vectors.proofs.print.print_hex.Tie as tie

@@ -1,6 +1,5 @@
 -- `vectors::print::print_marks` is safe and ends. The measure is the number of bytes that are left to print. Assumes nothing.
 use Prim.Native.Nat.{_≤_, _-_}
-use lib.ListN.{length}
 use borrow.Author.Needs.{needs}
 use Rattle.vectors.proofs.print.print_marks.Statement.{statement}
 use Rattle.vectors.proofs.print.print_marks.Tie as tie

@@ -2,7 +2,7 @@
 use native.Mathlib.Omega.{arith}
 use borrow.Author.Needs.{needs}
 use Rattle.wants.proofs.SetLaws.{wanted-held}
-use Rattle.wants.proofs.StartLaws.{fewer-below}
+use Rattle.wants.proofs.StartLaws.{fewer-events}
 use Rattle.wants.proofs.sets.wanted.Statement.{statement}
 use Rattle.wants.proofs.sets.wanted.Tie as tie
 
@@ -23,7 +23,7 @@ holds-requires c κs = search needs
 over-requires : tie.Need-over-requires
 over-requires c κs =
     let c5 = c .before .before .before .before .before in
-    (c5 .pre .0, (c5 .pre .1 .0, fewer-below (c5 .pre .1 .1 .1)))
+    (c5 .pre .0, (c5 .pre .1 .0, fewer-events (c5 .pre .1 .1 .1) (omega arith)))
 
 joint-requires : tie.Need-joint-requires
 joint-requires c κs = search needs

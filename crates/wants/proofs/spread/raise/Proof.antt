@@ -18,7 +18,7 @@ abbrev μ-loop : tie.MeasureT-loop
 
 loop-holds : tie.Need-loop-holds Inv-loop μ-loop
 loop-holds c = let a = c .args in
-    (raising-none (tableAt (a .kind .now) (a .first .now) (a .second .now)) (c .pre .1 .0) (a .start) (search needs) (c .pre .1 .1), omega arith)
+    (raising-none (tableAt (a .kind .now) (a .first .now) (a .second .now)) (a .rep .now) (a .start) (search needs) (c .pre .1 .1), omega arith)
 
 raises-requires : tie.Need-raises-requires Inv-loop μ-loop
 raises-requires c κs = search needs
@@ -43,9 +43,9 @@ loop-again c =
     let l = c4 in
     let a = c5 .args in (
       ⊎-elim
-          (λ x. rw (x .1, x .2) (raising-mark (tableAt (a .kind .now) (a .first .now) (a .second .now)) (c5 .pre .1 .0) (a .start) (l .loop .c) (l .loop .inv .0)
+          (λ x. rw (x .1, x .2) (raising-mark (tableAt (a .kind .now) (a .first .now) (a .second .now)) (a .rep .now) (a .start) (l .loop .c) (l .loop .inv .0)
           (omega (arith, c5 .pre .0 .few)) (c .before .raises .ensures .yes (x .0 .taken))))
-          (λ x. rw (x .1, x .2) (raising-skip (tableAt (a .kind .now) (a .first .now) (a .second .now)) (c5 .pre .1 .0) (a .start) (l .loop .c) (l .loop .inv .0)
+          (λ x. rw (x .1, x .2) (raising-skip (tableAt (a .kind .now) (a .first .now) (a .second .now)) (a .rep .now) (a .start) (l .loop .c) (l .loop .inv .0)
           (c .before .raises .ensures .no (x .0 .left))))
           (c .if1 .came),
       omega arith,

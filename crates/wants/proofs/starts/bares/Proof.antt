@@ -43,7 +43,7 @@ loop-again c =
     let h : l .loop .c ≤ 128 = omega (arith, c4 .pre .0 .few) in (
       ⊎-elim
           (λ x. rw (x .1) (bare-mark h (l .loop .inv .0)))
-          (λ x. rw (x .1) (bare-skip h (c .before .is-bare .ensures (x .0 .left)) (l .loop .inv .0)))
+          (λ x. rw (x .1) (bare-skip (l .loop .inv .0) (c .before .is-bare .ensures (x .0 .left))))
           (c .if1 .came),
       omega arith,
     )

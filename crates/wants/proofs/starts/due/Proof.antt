@@ -4,8 +4,8 @@ use mathlib.Core.Path.{subst}
 use Prim.Native.Nat.{ℕ, _≤_, _-_}
 use native.Mathlib.Omega.{arith}
 use borrow.Author.Needs.{needs}
+use Rattle.knowledge.proofs.Grow.{none-marked}
 use Rattle.wants.proofs.StartLaws.{due-none, due-low, due-mark, due-skip}
-use Rattle.wants.proofs.Rowing.{none-marked}
 use Rattle.wants.specs.Starts.{Due}
 use Rattle.wants.proofs.starts.due.Statement.{statement}
 use Rattle.wants.proofs.starts.due.Tie as tie

@@ -4,8 +4,8 @@ use mathlib.Core.Path.{subst}
 use Prim.Native.Nat.{ℕ, _≤_, _-_}
 use native.Mathlib.Omega.{arith}
 use borrow.Author.Needs.{needs}
+use Rattle.knowledge.proofs.Grow.{none-marked}
 use Rattle.wants.proofs.StartLaws.{free-none, free-mark, free-skip}
-use Rattle.wants.proofs.Rowing.{none-marked}
 use Rattle.wants.specs.Starts.{FreeSeen}
 use Rattle.wants.proofs.starts.free_seen.Statement.{statement}
 use Rattle.wants.proofs.starts.free_seen.Tie as tie

@@ -1,8 +1,8 @@
 -- The bytes of the two cells say it.
 use lib.ListN.{getD}
 use borrow.Author.Needs.{needs}
-use Rattle.solving.proofs.pairs.kin.Statement.{statement}
-use Rattle.solving.proofs.pairs.kin.Tie as tie
+use Rattle.hopeless.proofs.meets.kin.Statement.{statement}
+use Rattle.hopeless.proofs.meets.kin.Tie as tie
 
 element-copy-out-kin-bytes : tie.Need-element-copy-out-kin-bytes
 element-copy-out-kin-bytes c = search needs

@@ -1,8 +1,8 @@
 -- A case for each kind.
 use native.Mathlib.Omega.{arith}
-use Rattle.solving.proofs.KinLaws.{kin-none, kin-seals, kin-apart, kin-apps}
-use Rattle.solving.proofs.pairs.kin_bytes.Statement.{statement}
-use Rattle.solving.proofs.pairs.kin_bytes.Tie as tie
+use Rattle.hopeless.proofs.KinLaws.{kin-none, kin-seals, kin-apart, kin-apps}
+use Rattle.hopeless.proofs.meets.kin_bytes.Statement.{statement}
+use Rattle.hopeless.proofs.meets.kin_bytes.Tie as tie
 
 returns : tie.Need-returns
 returns c s s2 = let a = c .before .args in kin-none (a .kind) (a .first) (a .kind2) (a .first2) s s2 (c .if1 .taken)

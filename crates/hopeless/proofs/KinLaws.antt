@@ -1,21 +1,41 @@
--- Cells of one kind that does not give its parts by itself, by their kinds.
+-- Cells of one kind that does not give its parts by itself: they are the table's, and are told by their kinds.
 use mathlib.Core.Path.{_≡_, refl}
 use mathlib.Core.Logic.{_⊎_, inl, inr}
 use mathlib.Core.Bool.{false}
+use mathlib.Core.List.{List}
 use Prim.Native.Nat.{ℕ, zero, suc, _≤_, _<_}
 use native.Mathlib.Omega.{arith}
 use lib.Dec.{eqb}
 use Rattle.model.specs.Message.{One, App}
 use Rattle.model.specs.Case.{Cell, ONE, SE, AP}
-use Rattle.model.specs.Stored.{cellAt}
+use Rattle.model.specs.Stored.{cellAt, tableAt}
 use Rattle.model.proofs.Read.{clash}
+use Rattle.model.proofs.Stored.{seal-kind}
+use Rattle.theory.specs.Cells.{Rows}
 use Rattle.theory.specs.Level.{Shut, Kin}
+use Rattle.theory.proofs.Level.{kin-part}
+use Rattle.theory.proofs.Rows.{rows-part}
 use Rattle.knowledge.specs.Sweeps.{Decides}
 use Rattle.knowledge.proofs.ByKind.{decides-no, decides-eqb}
 
+pub kin-sym : {k k′ : Cell} → Kin k k′ → Kin k′ k
+kin-sym Kin.ones = Kin.ones
+kin-sym (Kin.twos s) = Kin.twos s
+
+pub kin-below : {n : ℕ} {K F S : List ℕ} → Rows n K F S → (c d : ℕ) → Kin (tableAt K F S c) (tableAt K F S d) → (c < n) × (d < n)
+kin-below w c d k =
+    let (x, p) = kin-part (kin-sym k) in
+    let (y, q) = kin-part k in
+    (rows-part w c x p .0, rows-part w d y q .0)
+
+-- ---- by their kinds
+
 -- The kind as a number: 3 for a seal, 4 for an application, and what may differ in it.
 kin-kind : (k f s k2 f2 s2 : ℕ) → Kin (cellAt k f s) (cellAt k2 f2 s2) → ((k ≡ 3) × (k2 ≡ 3)) ⊎ ((4 ≤ k) × (4 ≤ k2) × (f ≡ f2))
-kin-kind k f s k2 f2 s2 h = go k k2 (tell h)
+kin-kind k f s k2 f2 s2 h = elim (tell h) [
+  | inl (l, r, l′, r′, e, i) ↦ inl (seal-kind k f s e, seal-kind k2 f2 s2 i)
+  | inr (g, x, x′, e, i) ↦ (let (a, p) = app-kind k f s e in let (b, q) = app-kind k2 f2 s2 i in inr (a, b, cc))
+]
   where
     Told : Cell → Cell → Type 0
     Told a b = ((l : ℕ) × (r : ℕ) × (l′ : ℕ) × (r′ : ℕ) × (a ≡ SE l r) × (b ≡ SE l′ r′)) ⊎ ((g : One) × (x : ℕ) × (x′ : ℕ) × (a ≡ ONE g x) × (b ≡ ONE g x′))
@@ -24,23 +44,12 @@ kin-kind k f s k2 f2 s2 h = go k k2 (tell h)
     tell (Kin.ones {g = g} {a = x} {a′ = x′}) = inr (g, x, x′, refl, refl)
     tell (Kin.twos {l = l} {r = r} {l′ = l′} {r′ = r′} Shut.seals) = inl (l, r, l′, r′, refl, refl)
 
-    seal-kind : (k f s : ℕ) {l r : ℕ} → cellAt k f s ≡ SE l r → k ≡ 3
-    seal-kind zero f s e = clash (cc)
-    seal-kind (suc zero) f s e = clash (cc)
-    seal-kind (suc (suc zero)) f s e = clash (cc)
-    seal-kind (suc (suc (suc zero))) f s e = refl
-    seal-kind (suc (suc (suc (suc k)))) f s e = clash (cc)
-
     app-kind : (k f s : ℕ) {g : One} {x : ℕ} → cellAt k f s ≡ ONE g x → (4 ≤ k) × (App f ≡ g)
     app-kind zero f s e = clash (cc)
     app-kind (suc zero) f s e = clash (cc)
     app-kind (suc (suc zero)) f s e = clash (cc)
     app-kind (suc (suc (suc zero))) f s e = clash (cc)
     app-kind (suc (suc (suc (suc k)))) f s e = (omega arith, cc)
-
-    go : (k k2 : ℕ) → Told (cellAt k f s) (cellAt k2 f2 s2) → ((k ≡ 3) × (k2 ≡ 3)) ⊎ ((4 ≤ k) × (4 ≤ k2) × (f ≡ f2))
-    go k k2 (inl (l, r, l′, r′, e, i)) = inl (seal-kind k f s e, seal-kind k2 f2 s2 i)
-    go k k2 (inr (g, x, x′, e, i)) = let (h, p) = app-kind k f s e in let (h2, p2) = app-kind k2 f2 s2 i in inr (h, h2, cc)
 
 app-cell : (k f s : ℕ) → 4 ≤ k → cellAt k f s ≡ AP f s
 app-cell zero f s h = absurd (omega arith)

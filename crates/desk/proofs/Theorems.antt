@@ -1,0 +1,62 @@
+-- The main theorems of the exported face: a number tells its reply, and two numbers for one input are equal.
+use mathlib.Core.Path.{_≡_, sym, _∙_, ap}
+use mathlib.Core.List.{List}
+use Prim.Native.Nat.{ℕ}
+use Rattle.model.specs.Replies.{EquatedBy, RightListed, SameButList}
+use Rattle.building.specs.declared.Marked.{Marked}
+use Rattle.building.specs.Promise.{MarksPromise}
+use Rattle.building.proofs.Theorems.{build-marks-settled}
+use Rattle.equating.specs.declared.Equated.{Equated}
+use Rattle.equating.specs.Promise.{EquatePromise}
+use Rattle.equating.proofs.Theorems.{equate-settled}
+use Rattle.judging.specs.declared.Judged.{Judged}
+use Rattle.judging.specs.Promise.{JudgePromise}
+use Rattle.judging.proofs.Theorems.{judge-settled}
+use Rattle.reducing.specs.declared.Reduced.{Reduced}
+use Rattle.reducing.specs.Promise.{ReducePromise}
+use Rattle.reducing.proofs.Theorems.{reduce-settled}
+use Rattle.running.specs.declared.Solved.{Solved}
+use Rattle.running.specs.Promise.{RunPromise}
+use Rattle.running.proofs.Theorems.{run-settled}
+use Rattle.desk.specs.Numbers.{equateNumber, EquateTold, runNumber, RunTold, checkNumber, CheckTold, marksNumber, MarksTold, reduceNumber, ReduceTold}
+use Rattle.desk.proofs.EquateLaws.{equate-fits, equate-tells}
+use Rattle.desk.proofs.RunLaws.{run-fits, run-tells}
+use Rattle.desk.proofs.CheckLaws.{check-fits, check-tells}
+use Rattle.desk.proofs.MarksLaws.{marks-fits, marks-tells}
+use Rattle.desk.proofs.ReduceLaws.{reduce-fits, reduce-tells}
+
+-- ---- a number tells its reply: replies to whatever inputs that have one number are one
+
+pub equate-number-one : {file file′ : List ℕ} {a a′ b b′ : ℕ} {before before′ after after′ : List ℕ} {r r′ : Equated} →
+    EquatePromise file a b before r after → EquatePromise file′ a′ b′ before′ r′ after′ → equateNumber r ≡ equateNumber r′ → r ≡ r′
+equate-number-one {r = r} {r′ = r′} p p′ = equate-tells r r′ (equate-fits _ _ _ _ r _ p) (equate-fits _ _ _ _ r′ _ p′)
+
+pub run-number-one : {file file′ before before′ after after′ : List ℕ} {r r′ : Solved} → RunPromise file before r after → RunPromise file′ before′ r′ after′ → runNumber r ≡ runNumber r′ → r ≡ r′
+run-number-one {r = r} {r′ = r′} p p′ = run-tells r r′ (run-fits _ _ r _ p) (run-fits _ _ r′ _ p′)
+
+pub check-number-one : {file file′ list list′ : List ℕ} {r r′ : Judged} → JudgePromise file list r → JudgePromise file′ list′ r′ → checkNumber r ≡ checkNumber r′ → r ≡ r′
+check-number-one {r = r} {r′ = r′} p p′ = check-tells r r′ (check-fits _ _ r p) (check-fits _ _ r′ p′)
+
+pub marks-number-one : {file file′ before before′ after after′ : List ℕ} {r r′ : Marked} → MarksPromise file before r after → MarksPromise file′ before′ r′ after′ → marksNumber r ≡ marksNumber r′ → r ≡ r′
+marks-number-one {r = r} {r′ = r′} p p′ = marks-tells r r′ (marks-fits _ _ r _ p) (marks-fits _ _ r′ _ p′)
+
+pub reduce-number-one : {file file′ before before′ after after′ : List ℕ} {r r′ : Reduced} → ReducePromise file before r after → ReducePromise file′ before′ r′ after′ → reduceNumber r ≡ reduceNumber r′ → r ≡ r′
+reduce-number-one {r = r} {r′ = r′} p p′ = reduce-tells r r′ (reduce-fits _ _ r _ p) (reduce-fits _ _ r′ _ p′)
+
+-- ---- two numbers that are told for one input are equal, and so are the buffers, but for which list is shown
+
+pub equate-number-settled : {file : List ℕ} {a b : ℕ} {before after after′ : List ℕ} {n n′ : ℕ} → EquateTold file a b before n after → EquateTold file a b before n′ after′ →
+    (n ≡ n′) × SameButList (λ f. EquatedBy f a b) file before after after′
+equate-number-settled (r, p, e) (r′, p′, e′) = let (i, s) = equate-settled _ _ _ _ r r′ _ _ p p′ in (e ∙ (ap equateNumber i ∙ sym e′), s)
+
+pub run-number-settled : {file before after after′ : List ℕ} {n n′ : ℕ} → RunTold file before n after → RunTold file before n′ after′ → (n ≡ n′) × SameButList RightListed file before after after′
+run-number-settled (r, p, e) (r′, p′, e′) = let (i, s) = run-settled _ _ r r′ _ _ p p′ in (e ∙ (ap runNumber i ∙ sym e′), s)
+
+pub check-number-settled : {file list : List ℕ} {n n′ : ℕ} → CheckTold file list n → CheckTold file list n′ → n ≡ n′
+check-number-settled (r, p, e) (r′, p′, e′) = e ∙ (ap checkNumber (judge-settled _ _ r r′ p p′) ∙ sym e′)
+
+pub marks-number-settled : {file before after after′ : List ℕ} {n n′ : ℕ} → MarksTold file before n after → MarksTold file before n′ after′ → (n ≡ n′) × (after ≡ after′)
+marks-number-settled (r, p, e) (r′, p′, e′) = let (i, s) = build-marks-settled p p′ in (e ∙ (ap marksNumber i ∙ sym e′), s)
+
+pub reduce-number-settled : {file before after after′ : List ℕ} {n n′ : ℕ} → ReduceTold file before n after → ReduceTold file before n′ after′ → (n ≡ n′) × (after ≡ after′)
+reduce-number-settled (r, p, e) (r′, p′, e′) = let (i, s) = reduce-settled p p′ in (e ∙ (ap reduceNumber i ∙ sym e′), s)
