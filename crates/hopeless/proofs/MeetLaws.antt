@@ -1,4 +1,4 @@
--- What the class array of a search keeps, and the sweep that marks the cells that may be equal to a cell that is seen.
+-- The sweep that marks the cells that may be equal to a cell that is seen.
 use mathlib.Core.Path.{_≡_}
 use mathlib.Core.Bool.{Bool, true, false, true≢false, false≢true}
 use mathlib.Core.List.{List}
@@ -11,8 +11,6 @@ use Rattle.theory.specs.Cells.{classAt, On}
 use Rattle.knowledge.specs.Knowledge.{Marked}
 use Rattle.knowledge.proofs.Grow.{grown-none, grown-mark}
 use Rattle.hopeless.specs.Meets.{May, Alone, Equal, EqualTold, Equalling}
-
--- ---- class arrays
 
 -- ---- the cells that are seen
 

@@ -56,7 +56,7 @@ module _ {n : ℕ} {K F S rep : List ℕ} (w : Rows n K F S) (row : ClassRow n r
       unbuilt : (c : ℕ) → (On builts c → ⊥) → getD builts c 0 ≡ 0
       unbuilt c nb = let z = x .built-marked .bits c in omega arith
 
-      -- A pair that is seen is built.
+      -- What is seen is built.
       whole : (c : ℕ) → classAt rep c ≡ c → On seens c → On builts (classAt rep c)
       whole c e s = subst (On builts) (sym e) (sw .had c e s)
 

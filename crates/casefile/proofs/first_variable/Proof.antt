@@ -1,3 +1,4 @@
+-- The loop's invariant: no cell before the counter is a variable, so each of their records has four bytes.
 use mathlib.Core.Path.{_≡_, subst}
 use Prim.Native.Nat.{ℕ, _≤_, _<_, _-_}
 use native.Mathlib.Omega.{arith}

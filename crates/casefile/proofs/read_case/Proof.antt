@@ -1,3 +1,4 @@
+-- The cells are read first, then the events of the part of the file that begins where the cell records end; a refusal of either is the file's.
 use mathlib.Core.Path.{sym, _∙_, ap, subst}
 use native.Mathlib.Omega.{arith}
 use denote.Ref.{now}

@@ -1,3 +1,4 @@
+-- A refusal comes with no cell, no event and no variable.
 use borrow.Author.Needs.{needs}
 use Rattle.casefile.proofs.refused.Statement.{statement}
 use Rattle.casefile.proofs.refused.Tie as tie

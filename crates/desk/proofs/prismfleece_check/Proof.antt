@@ -1,3 +1,4 @@
+-- The number of each reply, which fits because its place is at most 899.
 use mathlib.Core.Path.{sym, _∙_, ap, subst}
 use Rattle.desk.specs.Numbers.{checkNumber}
 use Rattle.desk.proofs.Told.{Fits}

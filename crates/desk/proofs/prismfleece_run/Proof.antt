@@ -1,3 +1,4 @@
+-- The number of each reply, which fits because its place and its length are at most 899.
 use mathlib.Core.Path.{sym, _∙_, ap, subst}
 use native.Mathlib.Omega.{arith}
 use Rattle.desk.specs.Numbers.{runNumber}

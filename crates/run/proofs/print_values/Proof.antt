@@ -1,3 +1,4 @@
+-- The loop only prints: what it promises is that no index leaves the list.
 use borrow.Author.Needs.{needs}
 use native.Mathlib.Omega.{arith}
 use Prim.Native.Nat.{_≤_, _-_}

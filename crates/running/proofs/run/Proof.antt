@@ -1,3 +1,4 @@
+-- A refused file is replied to as it was read; an accepted one by the reply on its table and events.
 use native.Mathlib.Omega.{arith}
 use denote.Ref.{now}
 use Rattle.casefile.proofs.CaseFile.{case-refused, case-accepted, case-rows, case-events}

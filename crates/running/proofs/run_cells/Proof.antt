@@ -1,3 +1,4 @@
+-- The buffer is measured first, then the search decides; its list is right, and its "no" says that no values are.
 use borrow.Author.Tests.{not-true, not-false}
 use denote.Ref.{now}
 use Rattle.model.specs.Stored.{tableAt, runAt}

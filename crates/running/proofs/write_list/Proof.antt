@@ -1,3 +1,4 @@
+-- The loop's invariant: the first i bytes of the list stand at the front of the buffer, and the bytes beyond are as they were.
 use mathlib.Core.Path.{_≡_, refl, _∙_, ap}
 use mathlib.Core.List.{_++_}
 use Prim.Native.Nat.{ℕ, _≤_, _-_}

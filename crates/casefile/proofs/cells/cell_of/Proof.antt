@@ -1,3 +1,4 @@
+-- Each kind of cell record has its cell; of MK, LN and EN, which no caller asks for, it is an atom.
 use borrow.Author.Needs.{needs}
 use Rattle.casefile.proofs.cells.cell_of.Statement.{statement}
 use Rattle.casefile.proofs.cells.cell_of.Tie as tie

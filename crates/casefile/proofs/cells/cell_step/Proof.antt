@@ -1,3 +1,4 @@
+-- The mark decides: a cell record is tested further, the mark of an event ends the cells, and a cut or unknown mark is refused 1 or 2.
 use mathlib.Core.Path.{sym, _∙_, subst}
 use denote.Ref.{now}
 use lib.ListN.{drop}

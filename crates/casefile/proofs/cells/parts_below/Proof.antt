@@ -1,3 +1,4 @@
+-- By the kind: two parts, one part or none, each held against n.
 use mathlib.Core.Path.{refl}
 use borrow.Author.Tests.{lt-ltb, le-ltb, le-leb, lt-leb, eq-eqb, ne-eqb}
 use Rattle.model.proofs.Pick.{yes, no}

@@ -1,3 +1,4 @@
+-- The loop's invariant: the table has the cells of the records before `at`, and reading on from there gives what the whole file is read as.
 use mathlib.Core.Path.{subst, subst₂, sym, ap}
 use Prim.Native.Nat.{_-_, _+_}
 use native.Mathlib.Omega.{arith}

@@ -1,3 +1,4 @@
+-- A variable's record has two bytes, every other cell's four.
 use mathlib.Core.Path.{refl}
 use borrow.Author.Tests.{eq-eqb, ne-eqb}
 use Rattle.model.proofs.Pick.{yes, no}

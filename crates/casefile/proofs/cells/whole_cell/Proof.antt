@@ -1,3 +1,4 @@
+-- The tests come in the paper's order: 4, then 1 for missing fields, then 5.
 use mathlib.Core.Path.{sym, _∙_}
 use native.Mathlib.Omega.{arith}
 use denote.Ref.{now}

@@ -1,3 +1,4 @@
+-- An event passes if its cell is below the cell count; a refusal or the end passes as it is.
 use mathlib.Core.Path.{refl}
 use borrow.Author.Tests.{lt-ltb, le-ltb}
 use Rattle.model.proofs.Pick.{yes, no}

@@ -1,3 +1,4 @@
+-- Behind EN's two bytes nothing is left, or it is refused 7 where the rest begins.
 use mathlib.Core.Path.{refl}
 use native.Mathlib.Omega.{arith}
 use denote.Ref.{now}

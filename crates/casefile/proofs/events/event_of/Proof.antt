@@ -1,3 +1,4 @@
+-- MK and LN have their event; EN ends.
 use borrow.Author.Needs.{needs}
 use Rattle.casefile.proofs.events.event_of.Statement.{statement}
 use Rattle.casefile.proofs.events.event_of.Tie as tie

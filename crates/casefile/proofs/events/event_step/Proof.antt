@@ -1,3 +1,4 @@
+-- The mark decides: a cell's mark is late and refused 3, an event is tested further, and a cut or unknown mark is refused 1 or 2.
 use mathlib.Core.Path.{sym, _∙_, subst}
 use denote.Ref.{now}
 use lib.ListN.{drop}

@@ -1,3 +1,4 @@
+-- The loop's invariant: no variable before the counter is held and not made.
 use borrow.Author.Needs.{needs}
 use native.Mathlib.Omega.{arith}
 use native.Mathlib.Decide.{ℕ-discrete}

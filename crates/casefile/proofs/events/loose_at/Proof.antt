@@ -1,3 +1,4 @@
+-- Three bytes, held against 1 one after the other.
 use mathlib.Core.Path.{refl}
 use borrow.Author.Tests.{eq-eqb, ne-eqb}
 use Rattle.model.proofs.Pick.{yes, no, into}

@@ -1,3 +1,4 @@
+-- By the kind: the marks of two parts, of one part or of none.
 use borrow.Author.Needs.{needs}
 use Rattle.casefile.proofs.WithinLaws.{part-first, part-second, mark-none, mark-one, mark-two}
 use Rattle.casefile.proofs.events.mark_parts.Statement.{statement}

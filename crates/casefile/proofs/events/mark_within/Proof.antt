@@ -1,3 +1,4 @@
+-- The loop's invariant: of the marked cells from the counter up to c the parts are marked; parts are lower, so at 0 all that stands in c is marked.
 use Prim.Native.Nat.{suc, _-_}
 use lib.ListN.{set}
 use borrow.Author.Needs.{needs}

@@ -1,3 +1,4 @@
+-- The loop's invariant: the events of the records before `at` are stored, `made` marks the variables that their MKs hold, and reading on from there gives what the whole file is read as.
 use mathlib.Core.Path.{sym, ap, subst}
 use mathlib.Core.List.{List}
 use Prim.Native.Nat.{ℕ, _+_, _-_, _≤_}

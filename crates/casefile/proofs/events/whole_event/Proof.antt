@@ -1,3 +1,4 @@
+-- The tests come in the paper's order: EN ends; else 4, then 1 for the missing cell, then 5.
 use mathlib.Core.Path.{sym, _∙_, ap, subst}
 use native.Mathlib.Omega.{arith}
 use denote.Ref.{now}

@@ -1,3 +1,4 @@
+-- Two bytes, held against the mark's two.
 use Rattle.casefile.proofs.RecordLaws.{begins-first, begins-other}
 use denote.Ref.{now}
 use borrow.Author.Needs.{needs}

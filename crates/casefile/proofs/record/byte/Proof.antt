@@ -1,3 +1,4 @@
+-- Inside the file the byte there, past its end 0.
 use mathlib.Core.Path.{sym}
 use denote.Ref.{now}
 use lib.ListN.{List·getD-eq-default}

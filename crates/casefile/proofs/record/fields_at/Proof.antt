@@ -1,3 +1,4 @@
+-- The record is whole if the rest has two bytes and the fields; else it is cut.
 use native.Mathlib.Omega.{arith}
 use denote.Ref.{now}
 use Rattle.casefile.proofs.RecordLaws.{fields-cut, fields-whole}

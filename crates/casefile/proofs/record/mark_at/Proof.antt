@@ -1,3 +1,4 @@
+-- A mark whose second byte is missing is cut, not read past the end.
 use native.Mathlib.Omega.{arith}
 use denote.Ref.{now}
 use Rattle.casefile.proofs.RecordLaws.{mark-cut}

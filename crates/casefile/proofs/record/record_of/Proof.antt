@@ -1,3 +1,4 @@
+-- By the mark, a line for each of the eight kinds.
 use borrow.Author.Needs.{needs}
 use Rattle.casefile.proofs.record.record_of.Statement.{statement}
 use Rattle.casefile.proofs.record.record_of.Tie as tie

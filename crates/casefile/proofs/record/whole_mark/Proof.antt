@@ -1,3 +1,4 @@
+-- The eight marks are tried in the order of the paper's table; no two are equal.
 use mathlib.Core.Path.{sym, refl, _∙_}
 use mathlib.Core.List.{[], _∷_}
 use denote.Ref.{now}

@@ -1,3 +1,4 @@
+-- A variable's class is joined with that of its entry's cell; any other cell leaves the classes as they are.
 use mathlib.Core.Path.{_≡_, sym, _∙_}
 use lib.ListN.{getD}
 use Rattle.model.specs.Case.{VA}

@@ -1,3 +1,4 @@
+-- A variable's entry is 255 or a cell that is no variable; any other cell's is its own number.
 use native.Mathlib.Omega.{arith}
 use borrow.Author.Needs.{needs}
 use Rattle.judging.proofs.FormLaws.{fits-itself, fits-own, fits-cell, fits-none}

@@ -1,3 +1,4 @@
+-- An LN marks one class more; an MK is built exactly if its class is marked so by the sweep.
 use native.Mathlib.Omega.{arith}
 use borrow.Author.Needs.{needs}
 use Rattle.model.specs.Stored.{tableAt}
