@@ -25,7 +25,7 @@ pub fn round<'a>(
     first: &'a [u8; 128],
     second: &'a [u8; 128],
     n: usize,
-    rep: [u8; 129],
+    rep: &'a [u8; 129],
     ekind: &'a [u8; 128],
     ecell: &'a [u8; 128],
     p: usize,
@@ -33,13 +33,13 @@ pub fn round<'a>(
     built: [u8; 129],
 ) -> Turn
     requires { ⌜ Rows n (now kind) (now first) (now second) ⌝ }
-    requires { ⌜ Kept n (tableAt (now kind) (now first) (now second)) rep ⌝ }
+    requires { ⌜ Kept n (tableAt (now kind) (now first) (now second)) (now rep) ⌝ }
     requires { ⌜ EventRows n (now ecell) p ⌝ }
-    requires { ⌜ Marked rep seen ⌝ }
-    requires { ⌜ Marked rep built ⌝ }
-    ensures { λ r. ⌜ Rounded (tableAt (now (kind .entry)) (now (first .entry)) (now (second .entry))) n rep (now (ekind .entry)) (now (ecell .entry)) p seen built (r .seen) (r .built) (r .changed) ⌝ }
+    requires { ⌜ Marked (now rep) seen ⌝ }
+    requires { ⌜ Marked (now rep) built ⌝ }
+    ensures { λ r. ⌜ Rounded (tableAt (now (kind .entry)) (now (first .entry)) (now (second .entry))) n (now (rep .entry)) (now (ekind .entry)) (now (ecell .entry)) p seen built (r .seen) (r .built) (r .changed) ⌝ }
 {
-    let t = sweep(kind, first, second, n, &rep, seen, built);
+    let t = sweep(kind, first, second, n, rep, seen, built);
     if t.changed {
         return t;
     }
@@ -69,7 +69,7 @@ pub fn dream<'a>(
     first: &'a [u8; 128],
     second: &'a [u8; 128],
     n: usize,
-    rep: [u8; 129],
+    rep: &'a [u8; 129],
     ekind: &'a [u8; 128],
     ecell: &'a [u8; 128],
     p: usize,
@@ -77,11 +77,11 @@ pub fn dream<'a>(
     built: [u8; 129],
 ) -> Marks
     requires { ⌜ Rows n (now kind) (now first) (now second) ⌝ }
-    requires { ⌜ Kept n (tableAt (now kind) (now first) (now second)) rep ⌝ }
+    requires { ⌜ Kept n (tableAt (now kind) (now first) (now second)) (now rep) ⌝ }
     requires { ⌜ EventRows n (now ecell) p ⌝ }
-    requires { ⌜ Marked rep seen ⌝ }
-    requires { ⌜ Marked rep built ⌝ }
-    ensures { λ r. ⌜ Dreamt (tableAt (now (kind .entry)) (now (first .entry)) (now (second .entry))) n rep (now (ekind .entry)) (now (ecell .entry)) p seen built (r .seen) (r .built) ⌝ }
+    requires { ⌜ Marked (now rep) seen ⌝ }
+    requires { ⌜ Marked (now rep) built ⌝ }
+    ensures { λ r. ⌜ Dreamt (tableAt (now (kind .entry)) (now (first .entry)) (now (second .entry))) n (now (rep .entry)) (now (ekind .entry)) (now (ecell .entry)) p seen built (r .seen) (r .built) ⌝ }
 {
     let mut s = seen;
     let mut b = built;
@@ -114,27 +114,27 @@ pub fn hopeless<'a>(
     ekind: &'a [u8; 128],
     ecell: &'a [u8; 128],
     count: usize,
-    rep: [u8; 129],
+    rep: &'a [u8; 129],
 ) -> bool
     requires { ⌜ Rows n (now kind) (now first) (now second) ⌝ }
     requires { ⌜ EventRows n (now ecell) count ⌝ }
     requires { ⌜ WellFormed (tableAt (now kind) (now first) (now second)) (runAt count (now ekind) (now ecell)) ⌝ }
-    requires { ⌜ Solved n (tableAt (now kind) (now first) (now second)) rep ⌝ }
-    ensures { λ r. ⌜ (r ≡ true → None (tableAt (now (kind .entry)) (now (first .entry)) (now (second .entry))) (runAt count (now (ekind .entry)) (now (ecell .entry))) (classAt rep)) ⌝ }
+    requires { ⌜ Solved n (tableAt (now kind) (now first) (now second)) (now rep) ⌝ }
+    ensures { λ r. ⌜ (r ≡ true → None (tableAt (now (kind .entry)) (now (first .entry)) (now (second .entry))) (runAt count (now (ekind .entry)) (now (ecell .entry))) (classAt (now (rep .entry)))) ⌝ }
 {
     let mut s = [0; 129];
-    let mut b = own_marks(n, &rep);
+    let mut b = own_marks(n, rep);
     let mut p = 0;
     while p < count {
         if ekind[p] == 0 {
             let o = dream(kind, first, second, n, rep, ekind, ecell, p, s, b);
             s = o.seen;
             b = o.built;
-            if lacks(n, &rep, &b, ecell[p]) {
+            if lacks(n, rep, &b, ecell[p]) {
                 return true;
             }
         } else {
-            let l = learn(n, &rep, s, cell(ecell[p]));
+            let l = learn(n, rep, s, cell(ecell[p]));
             s = l;
         }
         p += 1;

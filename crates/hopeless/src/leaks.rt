@@ -32,20 +32,20 @@ pub fn leak_at<'a>(
     first: &'a [u8; 128],
     second: &'a [u8; 128],
     n: usize,
-    rep: [u8; 129],
+    rep: &'a [u8; 129],
     held: &'a [u8; 129],
     seen: &'a [u8; 129],
     c: usize,
     d: usize,
 ) -> Pick
     requires { ⌜ Rows n (now kind) (now first) (now second) ⌝ }
-    requires { ⌜ Kept n (tableAt (now kind) (now first) (now second)) rep ⌝ }
+    requires { ⌜ Kept n (tableAt (now kind) (now first) (now second)) (now rep) ⌝ }
     requires { ⌜ c < n ⌝ }
     requires { ⌜ d < n ⌝ }
-    ensures { λ r. ⌜ LeakTold (tableAt (now (kind .entry)) (now (first .entry)) (now (second .entry))) rep (now (held .entry)) (now (seen .entry)) c d r ⌝ }
+    ensures { λ r. ⌜ LeakTold (tableAt (now (kind .entry)) (now (first .entry)) (now (second .entry))) (now (rep .entry)) (now (held .entry)) (now (seen .entry)) c d r ⌝ }
 {
-    let e = ends(kind, first, second, n, &rep, c);
-    let f = ends(kind, first, second, n, &rep, d);
+    let e = ends(kind, first, second, n, rep, c);
+    let f = ends(kind, first, second, n, rep, d);
     if bright(held, seen, e.left, f.left) {
         if may(kind, first, second, n, rep, seen, c, d) {
             return Pick::Mark(f.left);
@@ -67,16 +67,16 @@ pub fn leak_row<'a>(
     first: &'a [u8; 128],
     second: &'a [u8; 128],
     n: usize,
-    rep: [u8; 129],
+    rep: &'a [u8; 129],
     held: &'a [u8; 129],
     start: [u8; 129],
     c: usize,
 ) -> Swept
     requires { ⌜ Rows n (now kind) (now first) (now second) ⌝ }
-    requires { ⌜ Kept n (tableAt (now kind) (now first) (now second)) rep ⌝ }
-    requires { ⌜ Marked rep start ⌝ }
+    requires { ⌜ Kept n (tableAt (now kind) (now first) (now second)) (now rep) ⌝ }
+    requires { ⌜ Marked (now rep) start ⌝ }
     requires { ⌜ c < n ⌝ }
-    ensures { λ r. ⌜ LeakingRow (tableAt (now (kind .entry)) (now (first .entry)) (now (second .entry))) rep (now (held .entry)) c start (r .marks) (r .changed) n ⌝ }
+    ensures { λ r. ⌜ LeakingRow (tableAt (now (kind .entry)) (now (first .entry)) (now (second .entry))) (now (rep .entry)) (now (held .entry)) c start (r .marks) (r .changed) n ⌝ }
 {
     let mut m = start;
     let mut changed = false;
@@ -101,15 +101,15 @@ pub fn leak<'a>(
     first: &'a [u8; 128],
     second: &'a [u8; 128],
     n: usize,
-    rep: [u8; 129],
+    rep: &'a [u8; 129],
     held: &'a [u8; 129],
     over: &'a [u8; 129],
     start: [u8; 129],
 ) -> Swept
     requires { ⌜ Rows n (now kind) (now first) (now second) ⌝ }
-    requires { ⌜ Kept n (tableAt (now kind) (now first) (now second)) rep ⌝ }
-    requires { ⌜ Marked rep start ⌝ }
-    ensures { λ r. ⌜ Leaking (tableAt (now (kind .entry)) (now (first .entry)) (now (second .entry))) n rep (now (held .entry)) (now (over .entry)) start (r .marks) (r .changed) ⌝ }
+    requires { ⌜ Kept n (tableAt (now kind) (now first) (now second)) (now rep) ⌝ }
+    requires { ⌜ Marked (now rep) start ⌝ }
+    ensures { λ r. ⌜ Leaking (tableAt (now (kind .entry)) (now (first .entry)) (now (second .entry))) n (now (rep .entry)) (now (held .entry)) (now (over .entry)) start (r .marks) (r .changed) ⌝ }
 {
     let mut c = 0;
     while c < n {
@@ -155,19 +155,19 @@ pub fn leaked<'a>(
     first: &'a [u8; 128],
     second: &'a [u8; 128],
     n: usize,
-    rep: [u8; 129],
+    rep: &'a [u8; 129],
     ekind: &'a [u8; 128],
     ecell: &'a [u8; 128],
     p: usize,
     start: [u8; 129],
 ) -> Swept
     requires { ⌜ Rows n (now kind) (now first) (now second) ⌝ }
-    requires { ⌜ Kept n (tableAt (now kind) (now first) (now second)) rep ⌝ }
+    requires { ⌜ Kept n (tableAt (now kind) (now first) (now second)) (now rep) ⌝ }
     requires { ⌜ EventRows n (now ecell) p ⌝ }
-    requires { ⌜ Marked rep start ⌝ }
-    ensures { λ r. ⌜ Leaked (tableAt (now (kind .entry)) (now (first .entry)) (now (second .entry))) n rep (now (ekind .entry)) (now (ecell .entry)) p start (r .marks) (r .changed) ⌝ }
+    requires { ⌜ Marked (now rep) start ⌝ }
+    ensures { λ r. ⌜ Leaked (tableAt (now (kind .entry)) (now (first .entry)) (now (second .entry))) n (now (rep .entry)) (now (ekind .entry)) (now (ecell .entry)) p start (r .marks) (r .changed) ⌝ }
 {
-    let held = holds(kind, first, second, n, &rep, &start);
-    let over = over_row(kind, first, second, n, &rep, &held, ekind, ecell, p);
+    let held = holds(kind, first, second, n, rep, &start);
+    let over = over_row(kind, first, second, n, rep, &held, ekind, ecell, p);
     leak(kind, first, second, n, rep, &held, &over, start)
 }

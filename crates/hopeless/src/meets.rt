@@ -46,16 +46,16 @@ pub fn may<'a>(
     first: &'a [u8; 128],
     second: &'a [u8; 128],
     n: usize,
-    rep: [u8; 129],
+    rep: &'a [u8; 129],
     seen: &'a [u8; 129],
     c: usize,
     d: usize,
 ) -> bool
     requires { ⌜ Rows n (now kind) (now first) (now second) ⌝ }
-    requires { ⌜ Kept n (tableAt (now kind) (now first) (now second)) rep ⌝ }
+    requires { ⌜ Kept n (tableAt (now kind) (now first) (now second)) (now rep) ⌝ }
     requires { ⌜ c < n ⌝ }
     requires { ⌜ d < n ⌝ }
-    ensures { λ r. ⌜ (r ≡ false → On (now (seen .entry)) d → May (tableAt (now (kind .entry)) (now (first .entry)) (now (second .entry))) rep c d → ⊥) ⌝ }
+    ensures { λ r. ⌜ (r ≡ false → On (now (seen .entry)) d → May (tableAt (now (kind .entry)) (now (first .entry)) (now (second .entry))) (now (rep .entry)) c d → ⊥) ⌝ }
 {
     if seen[d] != 1 {
         return false;
@@ -63,10 +63,10 @@ pub fn may<'a>(
     if !kin(kind, first, c, d) {
         return false;
     }
-    if class_of(&rep, c) == class_of(&rep, d) {
+    if class_of(rep, c) == class_of(rep, d) {
         return false;
     }
-    let u = unify(kind, first, second, n, rep, c as u8, d as u8);
+    let u = unify(kind, first, second, n, *rep, c as u8, d as u8);
     u.ok
 }
 
@@ -76,14 +76,14 @@ pub fn meets<'a>(
     first: &'a [u8; 128],
     second: &'a [u8; 128],
     n: usize,
-    rep: [u8; 129],
+    rep: &'a [u8; 129],
     seen: &'a [u8; 129],
     c: usize,
 ) -> bool
     requires { ⌜ Rows n (now kind) (now first) (now second) ⌝ }
-    requires { ⌜ Kept n (tableAt (now kind) (now first) (now second)) rep ⌝ }
+    requires { ⌜ Kept n (tableAt (now kind) (now first) (now second)) (now rep) ⌝ }
     requires { ⌜ c < n ⌝ }
-    ensures { λ r. ⌜ (r ≡ false → Alone (tableAt (now (kind .entry)) (now (first .entry)) (now (second .entry))) rep (now (seen .entry)) c n) ⌝ }
+    ensures { λ r. ⌜ (r ≡ false → Alone (tableAt (now (kind .entry)) (now (first .entry)) (now (second .entry))) (now (rep .entry)) (now (seen .entry)) c n) ⌝ }
 {
     let mut d = 0;
     while d < n {
@@ -101,17 +101,17 @@ pub fn equals<'a>(
     first: &'a [u8; 128],
     second: &'a [u8; 128],
     n: usize,
-    rep: [u8; 129],
+    rep: &'a [u8; 129],
     seen: &'a [u8; 129],
     built: &'a [u8; 129],
     c: usize,
 ) -> bool
     requires { ⌜ Rows n (now kind) (now first) (now second) ⌝ }
-    requires { ⌜ Kept n (tableAt (now kind) (now first) (now second)) rep ⌝ }
+    requires { ⌜ Kept n (tableAt (now kind) (now first) (now second)) (now rep) ⌝ }
     requires { ⌜ c < n ⌝ }
-    ensures { λ r. ⌜ EqualTold (tableAt (now (kind .entry)) (now (first .entry)) (now (second .entry))) n rep (now (seen .entry)) (now (built .entry)) c r ⌝ }
+    ensures { λ r. ⌜ EqualTold (tableAt (now (kind .entry)) (now (first .entry)) (now (second .entry))) n (now (rep .entry)) (now (seen .entry)) (now (built .entry)) c r ⌝ }
 {
-    if class_of(&rep, c) != c {
+    if class_of(rep, c) != c {
         return false;
     }
     if built[c] == 1 {
@@ -126,14 +126,14 @@ pub fn equal<'a>(
     first: &'a [u8; 128],
     second: &'a [u8; 128],
     n: usize,
-    rep: [u8; 129],
+    rep: &'a [u8; 129],
     seen: &'a [u8; 129],
     start: [u8; 129],
 ) -> Swept
     requires { ⌜ Rows n (now kind) (now first) (now second) ⌝ }
-    requires { ⌜ Kept n (tableAt (now kind) (now first) (now second)) rep ⌝ }
-    requires { ⌜ Marked rep start ⌝ }
-    ensures { λ r. ⌜ Equalling (tableAt (now (kind .entry)) (now (first .entry)) (now (second .entry))) n rep (now (seen .entry)) start (r .marks) (r .changed) n ⌝ }
+    requires { ⌜ Kept n (tableAt (now kind) (now first) (now second)) (now rep) ⌝ }
+    requires { ⌜ Marked (now rep) start ⌝ }
+    ensures { λ r. ⌜ Equalling (tableAt (now (kind .entry)) (now (first .entry)) (now (second .entry))) n (now (rep .entry)) (now (seen .entry)) start (r .marks) (r .changed) n ⌝ }
 {
     let mut m = start;
     let mut changed = false;

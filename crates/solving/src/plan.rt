@@ -30,21 +30,21 @@ pub fn live_at<'a>(
     first: &'a [u8; 128],
     second: &'a [u8; 128],
     n: usize,
-    rep: [u8; 129],
+    rep: &'a [u8; 129],
     want: &'a [u8; 129],
     bare: &'a [u8; 129],
     c: usize,
     d: usize,
 ) -> bool
     requires { ⌜ Rows n (now kind) (now first) (now second) ⌝ }
-    requires { ⌜ Kept n (tableAt (now kind) (now first) (now second)) rep ⌝ }
+    requires { ⌜ Kept n (tableAt (now kind) (now first) (now second)) (now rep) ⌝ }
     requires { ⌜ c < n ⌝ }
     requires { ⌜ d < n ⌝ }
 {
-    if !pairing(kind, first, &rep, want, bare, c, d) {
+    if !pairing(kind, first, rep, want, bare, c, d) {
         return false;
     }
-    let u = unify(kind, first, second, n, rep, c as u8, d as u8);
+    let u = unify(kind, first, second, n, *rep, c as u8, d as u8);
     u.ok
 }
 
@@ -54,7 +54,7 @@ pub fn live_row<'a>(
     first: &'a [u8; 128],
     second: &'a [u8; 128],
     n: usize,
-    rep: [u8; 129],
+    rep: &'a [u8; 129],
     want: &'a [u8; 129],
     bare: &'a [u8; 129],
     c: usize,
@@ -62,7 +62,7 @@ pub fn live_row<'a>(
     cap: usize,
 ) -> usize
     requires { ⌜ Rows n (now kind) (now first) (now second) ⌝ }
-    requires { ⌜ Kept n (tableAt (now kind) (now first) (now second)) rep ⌝ }
+    requires { ⌜ Kept n (tableAt (now kind) (now first) (now second)) (now rep) ⌝ }
     requires { ⌜ c < n ⌝ }
 {
     let mut k = before;
@@ -85,13 +85,13 @@ pub fn live<'a>(
     first: &'a [u8; 128],
     second: &'a [u8; 128],
     n: usize,
-    rep: [u8; 129],
+    rep: &'a [u8; 129],
     want: &'a [u8; 129],
     bare: &'a [u8; 129],
     cap: usize,
 ) -> usize
     requires { ⌜ Rows n (now kind) (now first) (now second) ⌝ }
-    requires { ⌜ Kept n (tableAt (now kind) (now first) (now second)) rep ⌝ }
+    requires { ⌜ Kept n (tableAt (now kind) (now first) (now second)) (now rep) ⌝ }
 {
     let mut k = 0;
     let mut c = 0;
@@ -110,7 +110,7 @@ pub fn choose<'a>(
     first: &'a [u8; 128],
     second: &'a [u8; 128],
     n: usize,
-    rep: [u8; 129],
+    rep: &'a [u8; 129],
     seen: &'a [u8; 129],
     built: &'a [u8; 129],
     ekind: &'a [u8; 128],
@@ -119,17 +119,17 @@ pub fn choose<'a>(
     best: Choice,
 ) -> Choice
     requires { ⌜ Rows n (now kind) (now first) (now second) ⌝ }
-    requires { ⌜ Kept n (tableAt (now kind) (now first) (now second)) rep ⌝ }
-    requires { ⌜ Marked rep (now seen) ⌝ }
+    requires { ⌜ Kept n (tableAt (now kind) (now first) (now second)) (now rep) ⌝ }
+    requires { ⌜ Marked (now rep) (now seen) ⌝ }
     requires { ⌜ EventRows n (now ecell) (p + 1) ⌝ }
-    ensures { λ r. ⌜ Chosen (tableAt (now (kind .entry)) (now (first .entry)) (now (second .entry))) rep (now (seen .entry)) (now (built .entry)) (now (ekind .entry)) (now (ecell .entry)) p best r ⌝ }
+    ensures { λ r. ⌜ Chosen (tableAt (now (kind .entry)) (now (first .entry)) (now (second .entry))) (now (rep .entry)) (now (seen .entry)) (now (built .entry)) (now (ekind .entry)) (now (ecell .entry)) p best r ⌝ }
 {
-    let t = class_of(&rep, cell(ecell[p]));
+    let t = class_of(rep, cell(ecell[p]));
     if built[t] == 1 {
         return best;
     }
-    let want = wanted(kind, first, second, n, &rep, seen, built, ekind, ecell, p);
-    let bare = bares(kind, first, second, n, &rep, seen, built);
+    let want = wanted(kind, first, second, n, rep, seen, built, ekind, ecell, p);
+    let bare = bares(kind, first, second, n, rep, seen, built);
     let pairs = live(kind, first, second, n, rep, &want, &bare, best.pairs);
     if best.ready {
         return Choice {
@@ -166,15 +166,15 @@ pub fn plan<'a>(
     first: &'a [u8; 128],
     second: &'a [u8; 128],
     n: usize,
-    rep: [u8; 129],
+    rep: &'a [u8; 129],
     ekind: &'a [u8; 128],
     ecell: &'a [u8; 128],
     count: usize,
 ) -> Choice
     requires { ⌜ Rows n (now kind) (now first) (now second) ⌝ }
-    requires { ⌜ Kept n (tableAt (now kind) (now first) (now second)) rep ⌝ }
+    requires { ⌜ Kept n (tableAt (now kind) (now first) (now second)) (now rep) ⌝ }
     requires { ⌜ EventRows n (now ecell) count ⌝ }
-    ensures { λ r. ⌜ Plans (tableAt (now (kind .entry)) (now (first .entry)) (now (second .entry))) (runAt count (now (ekind .entry)) (now (ecell .entry))) rep r ⌝ }
+    ensures { λ r. ⌜ Plans (tableAt (now (kind .entry)) (now (first .entry)) (now (second .entry))) (runAt count (now (ekind .entry)) (now (ecell .entry))) (now (rep .entry)) r ⌝ }
 {
     let mut m = [0; 129];
     let mut best = Choice {
@@ -186,7 +186,7 @@ pub fn plan<'a>(
     let mut p = 0;
     while p < count {
         if ekind[p] == 0 {
-            let o = open_known(kind, first, second, n, &rep, m);
+            let o = open_known(kind, first, second, n, rep, m);
             m = o.seen;
             let b = choose(
                 kind,
@@ -206,7 +206,7 @@ pub fn plan<'a>(
                 return best;
             }
         } else {
-            let l = learn(n, &rep, m, cell(ecell[p]));
+            let l = learn(n, rep, m, cell(ecell[p]));
             m = l;
         }
         p += 1;

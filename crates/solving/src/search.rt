@@ -94,7 +94,7 @@ pub fn search<'a>(
     requires { ⌜ Solved n (tableAt (now kind) (now first) (now second)) rep ⌝ }
     ensures { λ r. ⌜ Searched (tableAt (now (kind .entry)) (now (first .entry)) (now (second .entry))) n (runAt count (now (ekind .entry)) (now (ecell .entry))) rep r ⌝ }
 {
-    let pl = plan(kind, first, second, n, rep, ekind, ecell, count);
+    let pl = plan(kind, first, second, n, &rep, ekind, ecell, count);
     if pl.ready {
         return Found {
             yes: true,
@@ -137,7 +137,7 @@ pub fn solve<'a>(
     ensures { λ r. ⌜ Solves (tableAt (now (kind .entry)) (now (first .entry)) (now (second .entry))) n (runAt count (now (ekind .entry)) (now (ecell .entry))) r ⌝ }
 {
     let rep = start(kind, first, second, n);
-    if hopeless(kind, first, second, n, ekind, ecell, count, rep) {
+    if hopeless(kind, first, second, n, ekind, ecell, count, &rep) {
         return Solution {
             yes: false,
             list: [0; 128],

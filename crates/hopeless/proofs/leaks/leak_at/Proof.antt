@@ -9,12 +9,11 @@ use Rattle.hopeless.proofs.leaks.leak_at.Tie as tie
 
 ends-requires : tie.Need-ends-requires
 ends-requires c κs =
-    let s = c .before in
-    (s .pre .0, (kept-row (s .pre .0) (s .pre .1 .0), s .pre .1 .1 .0))
+    (c .pre .0, (kept-row (c .pre .0) (c .pre .1 .0), c .pre .1 .1 .0))
 
 ends-requires-2 : tie.Need-ends-requires-2
 ends-requires-2 c κs =
-    let s = c .before .before .before in
+    let s = c .before in
     (s .pre .0, (kept-row (s .pre .0) (s .pre .1 .0), s .pre .1 .1 .1))
 
 bright-requires : tie.Need-bright-requires
@@ -27,10 +26,10 @@ returns : tie.Need-returns
 returns c =
     let c3 = c .before .before .before in
     let c4 = c3 .before in
-    let c6 = c4 .before .before in
-    let s = c6 .before .before in
+    let c5 = c4 .before in
+    let s = c5 .before in
     let a = s .args in
-    let x = c6 .ends in
+    let x = c5 .ends in
     let y = c4 .ends2 in
     leak-left (tableAt (a .kind .now) (a .first .now) (a .second .now)) (kept-row (s .pre .0) (s .pre .1 .0)) (a .held .now) (a .seen .now) (a .c) (a .d)
     (x .result .left) (x .result .right) (y .result .left) (y .result .right) (x .ensures) (y .ensures) (c3 .bright .ensures .yes (c .before .before .if1 .taken))
@@ -45,10 +44,10 @@ returns-3 : tie.Need-returns-3
 returns-3 c =
     let c3 = c .before .before .before in
     let c4 = c3 .before in
-    let c6 = c4 .before .before in
-    let s = c6 .before .before in
+    let c5 = c4 .before in
+    let s = c5 .before in
     let a = s .args in
-    let x = c6 .ends in
+    let x = c5 .ends in
     let y = c4 .ends2 in
     leak-dark (tableAt (a .kind .now) (a .first .now) (a .second .now)) (kept-row (s .pre .0) (s .pre .1 .0)) (a .held .now) (a .seen .now) (a .c) (a .d)
     (x .result .left) (x .result .right) (y .result .left) (y .result .right) (x .ensures) (y .ensures)
@@ -61,10 +60,10 @@ returns-4 : tie.Need-returns-4
 returns-4 c =
     let c3 = c .before .before .before in
     let c6 = c3 .before .before .before in
-    let c8 = c6 .before .before in
-    let s = c8 .before .before in
+    let c7 = c6 .before in
+    let s = c7 .before in
     let a = s .args in
-    let x = c8 .ends in
+    let x = c7 .ends in
     let y = c6 .ends2 in
     leak-right (tableAt (a .kind .now) (a .first .now) (a .second .now)) (kept-row (s .pre .0) (s .pre .1 .0)) (a .held .now) (a .seen .now) (a .c) (a .d)
     (x .result .left) (x .result .right) (y .result .left) (y .result .right) (x .ensures) (y .ensures) (c3 .bright2 .ensures .yes (not-false _ (c .before .before .if3 .left)))

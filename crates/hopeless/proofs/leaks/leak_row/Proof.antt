@@ -17,7 +17,7 @@ abbrev μ-loop : tie.MeasureT-loop
 μ-loop kind first second n rep held c m₀ changed₀ d₀ m changed d = n - d
 
 loop-holds : tie.Need-loop-holds Inv-loop μ-loop
-loop-holds c = let a = c .args in (row-none (tableAt (a .kind .now) (a .first .now) (a .second .now)) (a .rep) (a .held .now) (a .c) (a .start) (search needs) (c .pre .1 .1 .0), omega arith)
+loop-holds c = let a = c .args in (row-none (tableAt (a .kind .now) (a .first .now) (a .second .now)) (a .rep .now) (a .held .now) (a .c) (a .start) (search needs) (c .pre .1 .1 .0), omega arith)
 
 leak-at-requires : tie.Need-leak-at-requires Inv-loop μ-loop
 leak-at-requires c κs =
@@ -34,7 +34,7 @@ array-write-m c =
     let c6 = c5 .before in
     let l = c5 .loop in
     let a = c6 .args in
-    omega (arith, leak-low (tableAt (a .kind .now) (a .first .now) (a .second .now)) (a .rep) (a .held .now) (a .c) (a .start) (l .d) (c3 .leak-at .ensures) (c .before .p .given .1))
+    omega (arith, leak-low (tableAt (a .kind .now) (a .first .now) (a .second .now)) (a .rep .now) (a .held .now) (a .c) (a .start) (l .d) (c3 .leak-at .ensures) (c .before .p .given .1))
 
 enum-told : tie.Need-enum-told Inv-loop μ-loop
 enum-told c = search needs
@@ -55,9 +55,9 @@ loop-again c =
     let l = c3 .loop in
     let a = c4 .args in (
       ⊎-elim
-          (λ x. rw (x .3, x .4) (row-mark (tableAt (a .kind .now) (a .first .now) (a .second .now)) (a .rep) (a .held .now) (a .c) (a .start) (l .d)
+          (λ x. rw (x .3, x .4) (row-mark (tableAt (a .kind .now) (a .first .now) (a .second .now)) (a .rep .now) (a .held .now) (a .c) (a .start) (l .d)
           (c .before .leak-at .ensures) (l .inv .0) (x .1 .given .1)))
-          (λ x. rw (x .2, x .3) (row-skip (tableAt (a .kind .now) (a .first .now) (a .second .now)) (a .rep) (a .held .now) (a .c) (a .start) (l .d)
+          (λ x. rw (x .2, x .3) (row-skip (tableAt (a .kind .now) (a .first .now) (a .second .now)) (a .rep .now) (a .held .now) (a .c) (a .start) (l .d)
           (c .before .leak-at .ensures) (l .inv .0) (x .1 .given .1)))
           (c .match .came),
       omega arith,
@@ -68,7 +68,7 @@ returns c =
     let c2 = c .before .before in
     let l = c .before .loop in
     let a = c2 .args in
-    subst (λ (i : ℕ). LeakingRow (tableAt (a .kind .now) (a .first .now) (a .second .now)) (a .rep) (a .held .now) (a .c) (a .start) (l .m) (l .changed) i) (omega arith) (l .inv .0)
+    subst (λ (i : ℕ). LeakingRow (tableAt (a .kind .now) (a .first .now) (a .second .now)) (a .rep .now) (a .held .now) (a .c) (a .start) (l .m) (l .changed) i) (omega arith) (l .inv .0)
 
 pub leak-row-spec : {M : Type 1} → statement M
 leak-row-spec =

@@ -7,11 +7,11 @@ use Rattle.hopeless.proofs.leaks.leaked.Statement.{statement}
 use Rattle.hopeless.proofs.leaks.leaked.Tie as tie
 
 holds-requires : tie.Need-holds-requires
-holds-requires c κs = let s = c .before .before in (s .pre .0, (kept-row (s .pre .0) (s .pre .1 .0), s .pre .1 .1 .1))
+holds-requires c κs = let s = c .before in (s .pre .0, (kept-row (s .pre .0) (s .pre .1 .0), s .pre .1 .1 .1))
 
 over-row-requires : tie.Need-over-row-requires
 over-row-requires c κs =
-    let s = c .before .before .before .before .before in (s .pre .0, (kept-row (s .pre .0) (s .pre .1 .0), s .pre .1 .1 .0))
+    let s = c .before .before .before in (s .pre .0, (kept-row (s .pre .0) (s .pre .1 .0), s .pre .1 .1 .0))
 
 leak-requires : tie.Need-leak-requires
 leak-requires c κs = search needs
@@ -19,9 +19,9 @@ leak-requires c κs = search needs
 returns : tie.Need-returns
 returns c =
     let c3 = c .before .before .before in
-    let c6 = c3 .before .before .before in
-    let a = c6 .before .before .before .args in
-    leaked-all {T = tableAt (a .kind .now) (a .first .now) (a .second .now)} (c6 .holds .ensures) (c3 .over-row .ensures) (c .leak .ensures)
+    let c5 = c3 .before .before in
+    let a = c5 .before .before .args in
+    leaked-all {T = tableAt (a .kind .now) (a .first .now) (a .second .now)} (c5 .holds .ensures) (c3 .over-row .ensures) (c .leak .ensures)
 
 pub leaked-spec : {M : Type 1} → statement M
 leaked-spec = tie.close (tie.spec holds-requires over-row-requires leak-requires returns)

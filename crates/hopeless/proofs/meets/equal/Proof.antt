@@ -17,7 +17,7 @@ abbrev μ-loop : tie.MeasureT-loop
 μ-loop kind first second n rep seen m₀ changed₀ c₀ m changed c = n - c
 
 loop-holds : tie.Need-loop-holds Inv-loop μ-loop
-loop-holds c = let a = c .args in (equalling-none (tableAt (a .kind .now) (a .first .now) (a .second .now)) (a .n) (a .rep) (a .seen .now) (a .start) (search needs) (c .pre .1 .1), omega arith)
+loop-holds c = let a = c .args in (equalling-none (tableAt (a .kind .now) (a .first .now) (a .second .now)) (a .n) (a .rep .now) (a .seen .now) (a .start) (search needs) (c .pre .1 .1), omega arith)
 
 equals-requires : tie.Need-equals-requires Inv-loop μ-loop
 equals-requires c κs = search needs
@@ -42,9 +42,9 @@ loop-again c =
     let l = c4 in
     let a = c5 .args in (
       ⊎-elim
-          (λ x. rw (x .1, x .2) (equalling-mark (tableAt (a .kind .now) (a .first .now) (a .second .now)) (a .n) (a .rep) (a .seen .now) (a .start) (l .loop .c) (l .loop .inv .0)
+          (λ x. rw (x .1, x .2) (equalling-mark (tableAt (a .kind .now) (a .first .now) (a .second .now)) (a .n) (a .rep .now) (a .seen .now) (a .start) (l .loop .c) (l .loop .inv .0)
           (c .before .equals .ensures) (omega (arith, c5 .pre .0 .few)) (x .0 .taken)))
-          (λ x. rw (x .1, x .2) (equalling-skip (tableAt (a .kind .now) (a .first .now) (a .second .now)) (a .n) (a .rep) (a .seen .now) (a .start) (l .loop .c) (l .loop .inv .0)
+          (λ x. rw (x .1, x .2) (equalling-skip (tableAt (a .kind .now) (a .first .now) (a .second .now)) (a .n) (a .rep .now) (a .seen .now) (a .start) (l .loop .c) (l .loop .inv .0)
           (c .before .equals .ensures) (x .0 .left)))
           (c .if1 .came),
       omega arith,
@@ -55,7 +55,7 @@ returns c =
     let c2 = c .before .before in
     let l = c .before in
     let a = c2 .args in
-    subst (λ (i : ℕ). Equalling (tableAt (a .kind .now) (a .first .now) (a .second .now)) (a .n) (a .rep) (a .seen .now) (a .start) (l .loop .m) (l .loop .changed) i) (omega arith)
+    subst (λ (i : ℕ). Equalling (tableAt (a .kind .now) (a .first .now) (a .second .now)) (a .n) (a .rep .now) (a .seen .now) (a .start) (l .loop .m) (l .loop .changed) i) (omega arith)
     (l .loop .inv .0)
 
 pub equal-spec : {M : Type 1} → statement M

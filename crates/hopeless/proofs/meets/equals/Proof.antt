@@ -11,7 +11,7 @@ class-of-requires c κs = search needs
 
 returns : tie.Need-returns
 returns c =
-    let a = c .before .before .before .args in
+    let a = c .before .before .args in
     equal-no (tableAt (a .kind .now) (a .first .now) (a .second .now)) (a .n) _ (a .seen .now) (a .built .now) (a .c) (λ w. c .if1 .taken (c .before .class-of .ensures ∙ w .stands))
 
 element-copy-out-if2 : tie.Need-element-copy-out-if2
@@ -19,8 +19,8 @@ element-copy-out-if2 c = search needs
 
 returns-2 : tie.Need-returns-2
 returns-2 c =
-    let c5 = c .before .before .before .before .before in
-    let a = c5 .args in
+    let c4 = c .before .before .before .before in
+    let a = c4 .args in
     equal-no (tableAt (a .kind .now) (a .first .now) (a .second .now)) (a .n) _ (a .seen .now) (a .built .now) (a .c) (λ w. w .new (c .if2 .taken))
 
 meets-requires : tie.Need-meets-requires
@@ -31,7 +31,7 @@ returns-3 c =
     let c1 = c .before in
     let c3 = c1 .before .before in
     let c4 = c3 .before in
-    let a = c4 .before .before .args in
+    let a = c4 .before .args in
     equal-told (tableAt (a .kind .now) (a .first .now) (a .second .now)) (a .n) _ (a .seen .now) (a .built .now) (a .c) (c .meets .result)
     (sym (c4 .class-of .ensures) ∙ c3 .if1 .left) (c1 .if2 .left) (c .meets .ensures)
 

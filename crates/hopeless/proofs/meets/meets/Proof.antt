@@ -16,7 +16,7 @@ abbrev μ-loop : tie.MeasureT-loop
 μ-loop kind first second n rep seen c d₀ d = n - d
 
 loop-holds : tie.Need-loop-holds Inv-loop μ-loop
-loop-holds c = let a = c .args in (alone-none (tableAt (a .kind .now) (a .first .now) (a .second .now)) (a .rep) (a .seen .now) (a .c), omega arith)
+loop-holds c = let a = c .args in (alone-none (tableAt (a .kind .now) (a .first .now) (a .second .now)) (a .rep .now) (a .seen .now) (a .c), omega arith)
 
 may-requires : tie.Need-may-requires Inv-loop μ-loop
 may-requires c κs =
@@ -40,14 +40,14 @@ loop-again c =
     let c4 = c3 .before in
     let a = c4 .args in
     let l = c3 .loop in
-    (alone-next (tableAt (a .kind .now) (a .first .now) (a .second .now)) (a .rep) (a .seen .now) (a .c) (l .d) (l .inv .0) (c .before .may .ensures (c .if1 .left)), omega arith)
+    (alone-next (tableAt (a .kind .now) (a .first .now) (a .second .now)) (a .rep .now) (a .seen .now) (a .c) (l .d) (l .inv .0) (c .before .may .ensures (c .if1 .left)), omega arith)
 
 returns-2 : tie.Need-returns-2 Inv-loop μ-loop
 returns-2 c =
     let c2 = c .before .before in
     let a = c2 .args in
     let l = c .before .loop in
-    λ _. subst (λ (i : ℕ). Alone (tableAt (a .kind .now) (a .first .now) (a .second .now)) (a .rep) (a .seen .now) (a .c) i) (omega arith) (l .inv .0)
+    λ _. subst (λ (i : ℕ). Alone (tableAt (a .kind .now) (a .first .now) (a .second .now)) (a .rep .now) (a .seen .now) (a .c) i) (omega arith) (l .inv .0)
 
 pub meets-spec : {M : Type 1} → statement M
 meets-spec =

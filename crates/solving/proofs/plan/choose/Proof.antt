@@ -18,33 +18,33 @@ cell-requires c κs = search needs
 
 class-of-requires : tie.Need-class-of-requires
 class-of-requires c κs =
-    let c3 = c .before .before .before in
-    omega (arith, c .cell .ensures, c3 .pre .1 .1 .1 .below (c3 .args .p) (omega arith), c3 .pre .0 .few)
+    let c2 = c .before .before in
+    omega (arith, c .cell .ensures, c2 .pre .1 .1 .1 .below (c2 .args .p) (omega arith), c2 .pre .0 .few)
 
 element-copy-out-if1 : tie.Need-element-copy-out-if1
 element-copy-out-if1 c =
-    let c4 = c .before .before .before .before in
-    omega (arith, c .class-of .ensures, kept-row (c4 .pre .0) (c4 .pre .1 .0) .low (c .before .cell .result))
+    let c3 = c .before .before .before in
+    omega (arith, c .class-of .ensures, kept-row (c3 .pre .0) (c3 .pre .1 .0) .low (c .before .cell .result))
 
 returns : tie.Need-returns
 returns c count x at w =
     let c2 = c .before .before in
     let c3 = c2 .before in
-    let c6 = c3 .before .before .before in
-    let a = c6 .args in
+    let c5 = c3 .before .before in
+    let a = c5 .args in
     let t = getD (a .ecell .now) (a .p) 0 in
-    planned-built (tableAt (a .kind .now) (a .first .now) (a .second .now)) (a .t5) (runAt count (a .ekind .now) (a .ecell .now)) (a .p) (a .best) w t at
-    (x .built t .0 (subst (On (a .built .now)) (c2 .class-of .ensures ∙ ap (classAt (a .t5)) (c3 .cell .ensures)) (c .if1 .taken)))
+    planned-built (tableAt (a .kind .now) (a .first .now) (a .second .now)) (a .rep .now) (runAt count (a .ekind .now) (a .ecell .now)) (a .p) (a .best) w t at
+    (x .built t .0 (subst (On (a .built .now)) (c2 .class-of .ensures ∙ ap (classAt (a .rep .now)) (c3 .cell .ensures)) (c .if1 .taken)))
 
 wanted-requires : tie.Need-wanted-requires
 wanted-requires c κs =
-    let c7 = c .before .before .before .before .before .before .before in
-    (c7 .pre .0, (kept-row (c7 .pre .0) (c7 .pre .1 .0), (c7 .pre .1 .1 .0, c7 .pre .1 .1 .1)))
+    let c5 = c .before .before .before .before .before in
+    (c5 .pre .0, (kept-row (c5 .pre .0) (c5 .pre .1 .0), (c5 .pre .1 .1 .0, c5 .pre .1 .1 .1)))
 
 bares-requires : tie.Need-bares-requires
 bares-requires c κs =
-    let c9 = c .before .before .before .before .before .before .before .before .before in
-    (c9 .pre .0, kept-row (c9 .pre .0) (c9 .pre .1 .0))
+    let c6 = c .before .before .before .before .before .before in
+    (c6 .pre .0, kept-row (c6 .pre .0) (c6 .pre .1 .0))
 
 live-requires : tie.Need-live-requires
 live-requires c κs = search needs
@@ -52,35 +52,35 @@ live-requires c κs = search needs
 returns-2 : tie.Need-returns-2
 returns-2 c count x at w =
     let c4 = c .before .before .before .before in
-    let c6 = c4 .before .before in
+    let c5 = c4 .before in
+    let c6 = c5 .before in
     let c8 = c6 .before .before in
-    let c10 = c8 .before .before in
-    let c11 = c10 .before in
-    let c14 = c11 .before .before .before in
-    let a = c14 .args in
-    let e = (c10 .class-of .ensures ∙ ap (classAt (a .t5)) (c11 .cell .ensures)) in
-    planned-new (tableAt (a .kind .now) (a .first .now) (a .second .now)) (a .t5) (runAt count (a .ekind .now) (a .ecell .now)) (a .p) (getD (a .ecell .now) (a .p) 0)
-    (a .seen .now) (a .built .now) x at (λ o. c8 .if1 .left (subst (On (a .built .now)) (sym e) o)) _ refl (c6 .wanted .ensures count x) (c4 .bares .ensures)
+    let c9 = c8 .before in
+    let c11 = c9 .before .before in
+    let a = c11 .args in
+    let e = (c8 .class-of .ensures ∙ ap (classAt (a .rep .now)) (c9 .cell .ensures)) in
+    planned-new (tableAt (a .kind .now) (a .first .now) (a .second .now)) (a .rep .now) (runAt count (a .ekind .now) (a .ecell .now)) (a .p) (getD (a .ecell .now) (a .p) 0)
+    (a .seen .now) (a .built .now) x at (λ o. c6 .if1 .left (subst (On (a .built .now)) (sym e) o)) _ refl (c5 .wanted .ensures count x) (c4 .bares .ensures)
 
 returns-3 : tie.Need-returns-3
 returns-3 c count x at w =
     let c6 = c .before .before .before .before .before .before in
-    let c8 = c6 .before .before in
+    let c7 = c6 .before in
+    let c8 = c7 .before in
     let c10 = c8 .before .before in
-    let c12 = c10 .before .before in
-    let c13 = c12 .before in
-    let c16 = c13 .before .before .before in
-    let a = c16 .args in
-    let e = (c12 .class-of .ensures ∙ ap (classAt (a .t5)) (c13 .cell .ensures)) in
-    planned-new (tableAt (a .kind .now) (a .first .now) (a .second .now)) (a .t5) (runAt count (a .ekind .now) (a .ecell .now)) (a .p) (getD (a .ecell .now) (a .p) 0)
-    (a .seen .now) (a .built .now) x at (λ o. c10 .if1 .left (subst (On (a .built .now)) (sym e) o)) _ refl (c8 .wanted .ensures count x) (c6 .bares .ensures)
+    let c11 = c10 .before in
+    let c13 = c11 .before .before in
+    let a = c13 .args in
+    let e = (c10 .class-of .ensures ∙ ap (classAt (a .rep .now)) (c11 .cell .ensures)) in
+    planned-new (tableAt (a .kind .now) (a .first .now) (a .second .now)) (a .rep .now) (runAt count (a .ekind .now) (a .ecell .now)) (a .p) (getD (a .ecell .now) (a .p) 0)
+    (a .seen .now) (a .built .now) x at (λ o. c8 .if1 .left (subst (On (a .built .now)) (sym e) o)) _ refl (c7 .wanted .ensures count x) (c6 .bares .ensures)
 
 returns-4 : tie.Need-returns-4
 returns-4 c count x at w =
     let c2 = c .before .before in
-    let c16 = c2 .before .before .before .before .before .before .before .before .before .before .before .before .before .before in
-    let a = c16 .args in
-    planned-old (tableAt (a .kind .now) (a .first .now) (a .second .now)) (a .t5) (runAt count (a .ekind .now) (a .ecell .now)) (a .p) (a .best) w (c2 .if2 .left)
+    let c13 = c2 .before .before .before .before .before .before .before .before .before .before .before in
+    let a = c13 .args in
+    planned-old (tableAt (a .kind .now) (a .first .now) (a .second .now)) (a .rep .now) (runAt count (a .ekind .now) (a .ecell .now)) (a .p) (a .best) w (c2 .if2 .left)
 
 pub choose-spec : {M : Type 1} → statement M
 choose-spec =

@@ -42,7 +42,7 @@ search-plan-requires : (t : ℕ) → search-lts.Need-plan-requires (
   search-below t,
   search′.Post,
 ) (search-at t) search′.Post search-Inv-loop search-μ-loop
-search-plan-requires t c κs = (c .pre .1 .0, (c .pre .1 .1 .1 .1 .kept, c .pre .1 .1 .0))
+search-plan-requires t c κs = let s = c .before in (s .pre .1 .0, (s .pre .1 .1 .1 .1 .kept, s .pre .1 .1 .0))
 
 search-returns : (t : ℕ) → search-lts.Need-returns (
   plan-reads.Asked,
@@ -53,8 +53,7 @@ search-returns : (t : ℕ) → search-lts.Need-returns (
   search′.Post,
 ) (search-at t) search′.Post search-Inv-loop search-μ-loop
 search-returns t c =
-    let c2 = c .before .before in
-    let s = c2 in searched-yes (s .pre .1 .0) _ (s .pre .1 .1 .1 .1) (c .before .plan .result) _ (c .before .plan .ensures) (c .if1 .taken) refl refl
+    let s = c .before .before .before in searched-yes (s .pre .1 .0) _ (s .pre .1 .1 .1 .1) (c .before .plan .result) _ (c .before .plan .ensures) (c .if1 .taken) refl refl
 
 search-loop-holds : (t : ℕ) → search-lts.Need-loop-holds (
   plan-reads.Asked,
@@ -65,9 +64,9 @@ search-loop-holds : (t : ℕ) → search-lts.Need-loop-holds (
   search′.Post,
 ) (search-at t) search′.Post search-Inv-loop search-μ-loop
 search-loop-holds t c =
-    let c2 = c .before .before in
-    let a = c2 .args in (
-      tried-none (tableAt (a .kind .now) (a .first .now) (a .second .now)) (a .n) (runAt (a .count) (a .ekind .now) (a .ecell .now)) (a .rep)
+    let c3 = c .before .before .before in
+    let a = c3 .args in (
+      tried-none (tableAt (a .kind .now) (a .first .now) (a .second .now)) (a .n) (runAt (a .count) (a .ekind .now) (a .ecell .now)) (a .t8)
           (c .before .plan .result .want) (c .before .plan .result .bare),
       omega arith,
     )
@@ -82,8 +81,8 @@ search-next-child-requires : (t : ℕ) → search-lts.Need-next-child-requires (
 ) (search-at t) search′.Post search-Inv-loop search-μ-loop
 search-next-child-requires t c κs =
     let c3 = c .before .before .before in
-    let c6 = c3 .before .before .before in
-    (c6 .pre .1 .0, (c6 .pre .1 .1 .1 .1 .kept, c3 .loop .inv .1))
+    let c7 = c3 .before .before .before .before in
+    (c7 .pre .1 .0, (c7 .pre .1 .1 .1 .1 .kept, c3 .loop .inv .1))
 
 search-returns-2 : (t : ℕ) → search-lts.Need-returns-2 (
   plan-reads.Asked,
@@ -98,14 +97,13 @@ search-returns-2 t c =
     let c6 = c2 .before .before .before .before in
     let c7 = c6 .before in
     let c8 = c7 .before in
-    let c9 = c8 .before in
-    let s = c9 in
+    let s = c8 .before .before in
     let a = s .args in
     let l = c6 .loop in
     let pl = c8 .plan .result in
     let h = c2 .next-child in
     searched-no (s .pre .1 .0) (runAt (a .count) (a .ekind .now) (a .ecell .now)) (s .pre .1 .1 .1 .1) (s .pre .1 .1 .1 .0) pl _ (c8 .plan .ensures) (c7 .if1 .left) refl
-    (tried-all (tableAt (a .kind .now) (a .first .now) (a .second .now)) (a .n) (runAt (a .count) (a .ekind .now) (a .ecell .now)) (a .rep) (pl .want) (pl .bare) (l .c)
+    (tried-all (tableAt (a .kind .now) (a .first .now) (a .second .now)) (a .n) (runAt (a .count) (a .ekind .now) (a .ecell .now)) (a .t8) (pl .want) (pl .bare) (l .c)
     (l .d) (l .inv .0) (h .result) (h .ensures) (not-true _ (c .if2 .taken)))
 
 search-search-requires : (t : ℕ) → search-lts.Need-search-requires (
@@ -118,8 +116,7 @@ search-search-requires : (t : ℕ) → search-lts.Need-search-requires (
 ) (search-at t) search′.Post search-Inv-loop search-μ-loop
 search-search-requires t c κs =
     let c3 = c .before .before .before in
-    let c10 = c3 .before .before .before .before .before .before .before in
-    let s = c10 in
+    let s = c3 .before .before .before .before .before .before .before .before in
     let h = c3 .next-child in
     let ok : h .result .ok ≡ true = not-false _ (c .before .if2 .left) in
     (omega (arith, h .ensures .fewer ok, s .pre .0), (s .pre .1 .0, (s .pre .1 .1 .0, (s .pre .1 .1 .1 .0, h .ensures .solved ok))))
@@ -134,9 +131,9 @@ search-returns-3 : (t : ℕ) → search-lts.Need-returns-3 (
 ) (search-at t) search′.Post search-Inv-loop search-μ-loop
 search-returns-3 t c =
     let c5 = c .before .before .before .before .before in
-    let c12 = c5 .before .before .before .before .before .before .before in
-    let a = c12 .args in
-    searched-child (tableAt (a .kind .now) (a .first .now) (a .second .now)) (a .n) (runAt (a .count) (a .ekind .now) (a .ecell .now)) (a .rep)
+    let c13 = c5 .before .before .before .before .before .before .before .before in
+    let a = c13 .args in
+    searched-child (tableAt (a .kind .now) (a .first .now) (a .second .now)) (a .n) (runAt (a .count) (a .ekind .now) (a .ecell .now)) (a .t8)
     (c5 .next-child .result .rep) (c .before .search .result) (c .before .search .ensures) (c .if3 .taken)
 
 search-loop-less : (t : ℕ) → search-lts.Need-loop-less (
@@ -150,8 +147,7 @@ search-loop-less : (t : ℕ) → search-lts.Need-loop-less (
 search-loop-less t c =
     let c3 = c .before .before .before in
     let c5 = c3 .before .before in
-    let c12 = c5 .before .before .before .before .before .before .before in
-    let s = c12 in
+    let s = c5 .before .before .before .before .before .before .before .before in
     let h = c5 .next-child in
     let w = h .ensures .later (not-false _ (c3 .if2 .left)) in
     omega (arith, w .0, w .1, w .2, s .pre .1 .0 .few)
@@ -169,14 +165,13 @@ search-loop-again t c =
     let c5 = c3 .before .before in
     let c9 = c5 .before .before .before .before in
     let c11 = c9 .before .before in
-    let c12 = c11 .before in
-    let s = c12 in
+    let s = c11 .before .before in
     let a = s .args in
     let l = c9 .loop in
     let pl = c11 .plan .result in
     let h = c5 .next-child in
     let ok = not-false _ (c3 .if2 .left) in (
-      tried-next (tableAt (a .kind .now) (a .first .now) (a .second .now)) (a .n) (runAt (a .count) (a .ekind .now) (a .ecell .now)) (a .rep) (pl .want) (pl .bare) (l .c)
+      tried-next (tableAt (a .kind .now) (a .first .now) (a .second .now)) (a .n) (runAt (a .count) (a .ekind .now) (a .ecell .now)) (a .t8) (pl .want) (pl .bare) (l .c)
           (l .d) (l .inv .0) (h .result) (h .ensures) ok (c .before .search .ensures .none (c .if3 .left)),
       omega (arith, h .ensures .later ok .2, s .pre .1 .0 .few),
     )

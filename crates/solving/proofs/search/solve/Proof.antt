@@ -10,28 +10,30 @@ start-requires : tie.Need-start-requires
 start-requires c κs = search needs
 
 hopeless-requires : tie.Need-hopeless-requires
-hopeless-requires c κs = (c .before .pre .0, (c .before .pre .1 .0, (c .before .pre .1 .1, c .start .ensures .solved)))
+hopeless-requires c κs = let st = c .before in
+    let s = st .before in
+    (s .pre .0, (s .pre .1 .0, (s .pre .1 .1, st .start .ensures .solved)))
 
 returns : tie.Need-returns
 returns c =
-    let st = c .before .before in
+    let st = c .before .before .before in
     let s = st .before in
     let a = s .args in
     solves-none (s .pre .0) (runAt (a .count) (a .ekind .now) (a .ecell .now)) (st .start .result) _ (st .start .ensures) (c .before .hopeless .ensures (c .if1 .taken)) refl
 
 search-requires : tie.Need-search-requires
 search-requires c κs =
-    let st = c .before .before in
+    let st = c .before .before .before in
     let s = st .before in
     (s .pre .0, (s .pre .1 .0, (s .pre .1 .1, st .start .ensures .solved)))
 
 value-list-requires : tie.Need-value-list-requires
-value-list-requires c κs = let s = c .before .before .before .before .before .before in s .pre .0 .few
+value-list-requires c κs = let s = c .before .before .before .before .before .before .before in s .pre .0 .few
 
 returns-2 : tie.Need-returns-2
 returns-2 c =
     let q = c .before .before .before in
-    let st = q .before .before .before in
+    let st = q .before .before .before .before in
     let s = st .before in
     let a = s .args in
     solves (s .pre .0) (runAt (a .count) (a .ekind .now) (a .ecell .now)) (st .start .result) (q .search .result) _ (st .start .ensures) (q .search .ensures)
