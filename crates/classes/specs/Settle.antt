@@ -11,6 +11,7 @@ use Rattle.theory.specs.Cells.{classAt}
 use Rattle.theory.specs.Classes.{Alike, Closed, Sat}
 use Rattle.classes.specs.declared.Diff.{Diff}
 use Rattle.classes.specs.declared.Diff.the-variants.{Same, Clash, Parts}
+use Rattle.classes.specs.declared.Step.{Step}
 use Rattle.classes.specs.declared.Swept.{Swept}
 use Rattle.classes.specs.declared.Settled.{Settled}
 use Rattle.classes.specs.Kept.{Kept, classCount, Unmet, Solved}
@@ -41,10 +42,10 @@ pub record Moved (T : Table) (P : List ℕ → Type 0) (rep out : List ℕ) (cha
   pub fewer : changed ≡ true → classCount out < classCount rep
   pub still : changed ≡ false → out ≡ rep
 
--- A binding step at the cell c.
-pub record Bound (n : ℕ) (T : Table) (rep : List ℕ) (c : ℕ) (r : Swept) : Type 0 where
+-- A binding step at the cell c, which makes the classes out of rep.
+pub record Bound (n : ℕ) (T : Table) (rep : List ℕ) (c : ℕ) (out : List ℕ) (r : Step) : Type 0 where
   pub no : r .ok ≡ false → Unmet T (classAt rep)
-  pub yes : r .ok ≡ true → Moved T (Kept n T) rep (r .rep) (r .changed)
+  pub yes : r .ok ≡ true → Moved T (Kept n T) rep out (r .changed)
   pub shut : r .ok ≡ true → r .changed ≡ false → Shut T (classAt rep) c
 
 -- A binding step at each of the cells below upto.

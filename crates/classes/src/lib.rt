@@ -1,11 +1,11 @@
-// Classes of cells that are to show equal messages: each cell's representative in an array by value.
+// Classes of cells that are to show equal messages: each cell's representative in an array of 129 bytes.
 pub mod upward;
 
 ghost use mathlib.Core.Path.{_≡_};
 ghost use mathlib.Core.Bool.{true, false};
 ghost use Prim.Native.Nat.{_+_, _<_, _≤_};
 ghost use lib.Dec.{eqb};
-ghost use lib.ListN.{getD};
+ghost use lib.ListN.{length, getD};
 ghost use Rattle.model.specs.Message.{Two};
 ghost use Rattle.model.specs.Case.{TWO};
 ghost use Rattle.model.specs.Stored.{cellAt, tableAt};
@@ -21,6 +21,12 @@ pub enum Diff {
     Same,
     Clash,
     Parts(u8, u8),
+}
+
+// Whether a binding step found no clash, and whether it joined.
+pub struct Step {
+    pub ok: bool,
+    pub changed: bool,
 }
 
 // The classes after joins, whether there were any, and whether no clash was found.
@@ -52,8 +58,8 @@ pub fn entry(row: &[u8; 128], c: u8) -> u8
 }
 
 // The cell that stands for the class of c.
-pub fn class_of(rep: [u8; 129], c: u8) -> u8
-    ensures { λ r. ⌜ r ≡ classAt rep c ⌝ }
+pub fn class_of(rep: &[u8; 129], c: u8) -> u8
+    ensures { λ r. ⌜ r ≡ classAt (now (rep .entry)) c ⌝ }
 {
     let i = c as usize;
     if i < 128 { rep[i] } else { rep[128] }
@@ -116,8 +122,8 @@ pub fn join<'a>(
     requires { ⌜ (a < n) × (b < n) ⌝ }
     ensures { λ out. ⌜ Joined n (tableAt (now (kind .entry)) (now (first .entry)) (now (second .entry))) rep a b out ⌝ }
 {
-    let x = class_of(rep, a);
-    let y = class_of(rep, b);
+    let x = class_of(&rep, a);
+    let y = class_of(&rep, b);
     if x == y {
         return rep;
     }
@@ -128,8 +134,8 @@ pub fn join<'a>(
 }
 
 // Two parts: of one class, or to be joined.
-fn part(rep: [u8; 129], x: u8, y: u8) -> Diff
-    ensures { λ r. ⌜ PartTold (classAt rep) x y r ⌝ }
+fn part(rep: &[u8; 129], x: u8, y: u8) -> Diff
+    ensures { λ r. ⌜ PartTold (classAt (now (rep .entry))) x y r ⌝ }
 {
     if class_of(rep, x) == class_of(rep, y) {
         Diff::Same
@@ -139,8 +145,8 @@ fn part(rep: [u8; 129], x: u8, y: u8) -> Diff
 }
 
 // Two cells of one kind with two parts.
-fn both(rep: [u8; 129], a: u8, b: u8, x: u8, y: u8) -> Diff
-    ensures { λ r. ⌜ ((h : Two) → Told (classAt rep) (TWO h a b) (TWO h x y) r) ⌝ }
+fn both(rep: &[u8; 129], a: u8, b: u8, x: u8, y: u8) -> Diff
+    ensures { λ r. ⌜ ((h : Two) → Told (classAt (now (rep .entry))) (TWO h a b) (TWO h x y) r) ⌝ }
 {
     let d = part(rep, a, x);
     let Diff::Same = d else {
@@ -150,9 +156,9 @@ fn both(rep: [u8; 129], a: u8, b: u8, x: u8, y: u8) -> Diff
 }
 
 // Two cells of the kind k, by their field bytes.
-fn fields(rep: [u8; 129], k: u8, a: u8, b: u8, x: u8, y: u8) -> Diff
+fn fields(rep: &[u8; 129], k: u8, a: u8, b: u8, x: u8, y: u8) -> Diff
     requires { ⌜ k ≤ 4 ⌝ }
-    ensures { λ r. ⌜ Told (classAt rep) (cellAt k a b) (cellAt k x y) r ⌝ }
+    ensures { λ r. ⌜ Told (classAt (now (rep .entry))) (cellAt k a b) (cellAt k x y) r ⌝ }
 {
     if k == 1 {
         return Diff::Clash;
@@ -181,12 +187,12 @@ pub fn compare<'a>(
     first: &'a [u8; 128],
     second: &'a [u8; 128],
     n: usize,
-    rep: [u8; 129],
+    rep: &'a [u8; 129],
     c: u8,
     d: u8,
 ) -> Diff
     requires { ⌜ Rows n (now kind) (now first) (now second) ⌝ }
-    ensures { λ r. ⌜ Told (classAt rep) (tableAt (now (kind .entry)) (now (first .entry)) (now (second .entry)) c)
+    ensures { λ r. ⌜ Told (classAt (now (rep .entry))) (tableAt (now (kind .entry)) (now (first .entry)) (now (second .entry)) c)
         (tableAt (now (kind .entry)) (now (first .entry)) (now (second .entry)) d) r ⌝ }
 {
     let k = entry(kind, c);
@@ -209,11 +215,11 @@ fn twin<'a>(
     first: &'a [u8; 128],
     second: &'a [u8; 128],
     n: usize,
-    rep: [u8; 129],
+    rep: &'a [u8; 129],
     c: u8,
 ) -> u8
     requires { ⌜ Rows n (now kind) (now first) (now second) ⌝ }
-    ensures { λ r. ⌜ Twin (tableAt (now (kind .entry)) (now (first .entry)) (now (second .entry))) (classAt rep) c r ⌝ }
+    ensures { λ r. ⌜ Twin (tableAt (now (kind .entry)) (now (first .entry)) (now (second .entry))) (classAt (now (rep .entry))) c r ⌝ }
 {
     let mut d: u8 = 0;
     while d < c {
@@ -239,7 +245,7 @@ pub fn start<'a>(
     let mut rep = [0u8; 129];
     let mut c: u8 = 0;
     while c < 129 {
-        let t = twin(kind, first, second, n, rep, c);
+        let t = twin(kind, first, second, n, &rep, c);
         let i = c as usize;
         rep[i] = t;
         c += 1;
@@ -253,12 +259,12 @@ pub fn differ<'a>(
     first: &'a [u8; 128],
     second: &'a [u8; 128],
     n: usize,
-    rep: [u8; 129],
+    rep: &'a [u8; 129],
     c: u8,
 ) -> Diff
     requires { ⌜ Rows n (now kind) (now first) (now second) ⌝ }
-    requires { ⌜ Kept n (tableAt (now kind) (now first) (now second)) rep ⌝ }
-    ensures { λ r. ⌜ Asks n (tableAt (now (kind .entry)) (now (first .entry)) (now (second .entry))) rep c r ⌝ }
+    requires { ⌜ Kept n (tableAt (now kind) (now first) (now second)) (now rep) ⌝ }
+    ensures { λ r. ⌜ Asks n (tableAt (now (kind .entry)) (now (first .entry)) (now (second .entry))) (now (rep .entry)) c r ⌝ }
 {
     if entry(kind, c) == 1 {
         return Diff::Same;
@@ -278,31 +284,30 @@ fn same(d: Diff) -> bool
 }
 
 // One binding step: what the cell c asks for is joined, or it clashes.
-pub fn bind<'a>(
+pub fn bind<'a, 'b>(
     kind: &'a [u8; 128],
     first: &'a [u8; 128],
     second: &'a [u8; 128],
     n: usize,
-    rep: [u8; 129],
+    rep: &'b mut [u8; 129],
     c: u8,
-) -> Swept
+) -> Step
     requires { ⌜ Rows n (now kind) (now first) (now second) ⌝ }
-    requires { ⌜ Kept n (tableAt (now kind) (now first) (now second)) rep ⌝ }
-    ensures { λ r. ⌜ Bound n (tableAt (now (kind .entry)) (now (first .entry)) (now (second .entry))) rep c r ⌝ }
+    requires { ⌜ Kept n (tableAt (now kind) (now first) (now second)) (now rep) ⌝ }
+    ensures { λ r. ⌜ Bound n (tableAt (now (kind .entry)) (now (first .entry)) (now (second .entry))) (now (rep .entry)) c (now (rep .exit)) r ⌝ }
 {
-    let d = differ(kind, first, second, n, rep, c);
+    let d = differ(kind, first, second, n, &*rep, c);
     let Diff::Parts(x, y) = d else {
-        return Swept {
+        return Step {
             ok: same(d),
             changed: false,
-            rep: rep,
         };
     };
-    let joined = join(kind, first, second, n, rep, x, y);
-    Swept {
+    let joined = join(kind, first, second, n, *rep, x, y);
+    *rep = joined;
+    Step {
         ok: true,
         changed: true,
-        rep: joined,
     }
 }
 
@@ -323,11 +328,14 @@ pub fn sweep<'a>(
     let mut changed = false;
     let mut c: usize = n + 1;
     while 0 < c {
-        let b = bind(kind, first, second, n, rep, (c - 1) as u8);
+        let b = bind(kind, first, second, n, &mut rep, (c - 1) as u8);
         if !b.ok {
-            return b;
+            return Swept {
+                ok: false,
+                changed: changed,
+                rep: rep,
+            };
         }
-        rep = b.rep;
         if b.changed {
             changed = true;
         } else {
@@ -370,8 +378,9 @@ pub fn settle<'a>(
 }
 
 // Whether the cell c is marked.
-pub fn marked(marks: [u8; 129], c: u8) -> bool
-    ensures { λ r. ⌜ r ≡ eqb (getD marks c 0) 1 ⌝ }
+pub fn marked(marks: &[u8; 129], c: u8) -> bool
+    requires { ⌜ length (now marks) ≡ 129 ⌝ }
+    ensures { λ r. ⌜ r ≡ eqb (getD (now (marks .entry)) c 0) 1 ⌝ }
 {
     let i = c as usize;
     if i < 129 { marks[i] == 1 } else { false }
@@ -383,13 +392,14 @@ fn ready<'a>(
     first: &'a [u8; 128],
     second: &'a [u8; 128],
     n: usize,
-    rep: [u8; 129],
-    done: [u8; 129],
+    rep: &'a [u8; 129],
+    done: &'a [u8; 129],
     c: u8,
 ) -> bool
     requires { ⌜ Rows n (now kind) (now first) (now second) ⌝ }
-    ensures yes { λ r. ⌜ (r ≡ true → Done done (classTable (tableAt (now (kind .entry)) (now (first .entry)) (now (second .entry))) rep c)) ⌝ }
-    ensures no { λ r. ⌜ (r ≡ false → Done done (classTable (tableAt (now (kind .entry)) (now (first .entry)) (now (second .entry))) rep c) → ⊥) ⌝ }
+    requires { ⌜ length (now done) ≡ 129 ⌝ }
+    ensures yes { λ r. ⌜ (r ≡ true → Done (now (done .entry)) (classTable (tableAt (now (kind .entry)) (now (first .entry)) (now (second .entry))) (now (rep .entry)) c)) ⌝ }
+    ensures no { λ r. ⌜ (r ≡ false → Done (now (done .entry)) (classTable (tableAt (now (kind .entry)) (now (first .entry)) (now (second .entry))) (now (rep .entry)) c) → ⊥) ⌝ }
 {
     let r = class_of(rep, c);
     let k = entry(kind, r);
@@ -411,12 +421,13 @@ fn fresh<'a>(
     first: &'a [u8; 128],
     second: &'a [u8; 128],
     n: usize,
-    rep: [u8; 129],
-    done: [u8; 129],
+    rep: &'a [u8; 129],
+    done: &'a [u8; 129],
     c: u8,
 ) -> bool
     requires { ⌜ Rows n (now kind) (now first) (now second) ⌝ }
-    ensures { λ r. ⌜ Fresh (classTable (tableAt (now (kind .entry)) (now (first .entry)) (now (second .entry))) rep) done c r ⌝ }
+    requires { ⌜ length (now done) ≡ 129 ⌝ }
+    ensures { λ r. ⌜ Fresh (classTable (tableAt (now (kind .entry)) (now (first .entry)) (now (second .entry))) (now (rep .entry))) (now (done .entry)) c r ⌝ }
 {
     if marked(done, c) {
         return false;
@@ -430,18 +441,18 @@ fn peel<'a>(
     first: &'a [u8; 128],
     second: &'a [u8; 128],
     n: usize,
-    rep: [u8; 129],
+    rep: &'a [u8; 129],
     start: [u8; 129],
 ) -> Peeling
     requires { ⌜ Rows n (now kind) (now first) (now second) ⌝ }
-    requires { ⌜ Peeled (classTable (tableAt (now kind) (now first) (now second)) rep) start ⌝ }
-    ensures { λ r. ⌜ Peels (classTable (tableAt (now (kind .entry)) (now (first .entry)) (now (second .entry))) rep) start (n + 1) (r .done) (r .changed) ⌝ }
+    requires { ⌜ Peeled (classTable (tableAt (now kind) (now first) (now second)) (now rep)) start ⌝ }
+    ensures { λ r. ⌜ Peels (classTable (tableAt (now (kind .entry)) (now (first .entry)) (now (second .entry))) (now (rep .entry))) start (n + 1) (r .done) (r .changed) ⌝ }
 {
     let mut done = start;
     let mut changed = false;
     let mut c: usize = 0;
     while c <= n {
-        if fresh(kind, first, second, n, rep, done, c as u8) {
+        if fresh(kind, first, second, n, rep, &done, c as u8) {
             done[c] = 1;
             changed = true;
         }
@@ -454,9 +465,9 @@ fn peel<'a>(
 }
 
 // Whether the cells up to n are all marked.
-fn all_done(done: [u8; 129], n: usize) -> bool
+fn all_done(done: &[u8; 129], n: usize) -> bool
     requires { ⌜ n ≤ 128 ⌝ }
-    ensures { λ r. ⌜ AllDone done (n + 1) r ⌝ }
+    ensures { λ r. ⌜ AllDone (now (done .entry)) (n + 1) r ⌝ }
 {
     let mut c: usize = 0;
     while c <= n {
@@ -483,10 +494,10 @@ pub fn acyclic<'a>(
 {
     let mut done = [0u8; 129];
     loop {
-        let p = peel(kind, first, second, n, rep, done);
+        let p = peel(kind, first, second, n, &rep, done);
         done = p.done;
         if !p.changed {
-            return all_done(done, n);
+            return all_done(&done, n);
         }
     }
 }

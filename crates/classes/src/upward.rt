@@ -28,8 +28,8 @@ pub fn meet<'a>(
     requires { ⌜ c < n ⌝ }
     ensures { λ r. ⌜ Meets n (tableAt (now (kind .entry)) (now (first .entry)) (now (second .entry))) rep c r ⌝ }
 {
-    let t = twin(kind, first, second, n, rep, c);
-    if class_of(rep, t) == class_of(rep, c) {
+    let t = twin(kind, first, second, n, &rep, c);
+    if class_of(&rep, t) == class_of(&rep, c) {
         return Lifted {
             changed: false,
             rep: rep,

@@ -18,16 +18,16 @@ loop-holds : tie.Need-loop-holds Inv-loop μ-loop
 loop-holds c = peeled-none _
 
 peel-requires : tie.Need-peel-requires Inv-loop μ-loop
-peel-requires c κs = (c .before .pre .0, c .loop .inv)
+peel-requires c κs = (c .before .before .pre .0, c .before .loop .inv)
 
 all-done-requires : tie.Need-all-done-requires Inv-loop μ-loop
-all-done-requires c κs = c .before .before .before .before .before .pre .0 .few
+all-done-requires c κs = c .before .before .before .before .before .before .before .pre .0 .few
 
 returns : tie.Need-returns Inv-loop μ-loop
 returns c =
-    let i = c .before in
+    let i = c .before .before in
     let q = i .before .before .before in
-    let s = q .before .before in
+    let s = q .before .before .before in
     let a = s .args in
     let quiet : q .peel .result .changed ≡ false = not-true _ (i .if1 .taken) in (
       λ e. peeled-finite (s .pre .0) (s .pre .1) (q .peel .result .done) (q .peel .ensures .peeled) (c .all-done .ensures .yes e),

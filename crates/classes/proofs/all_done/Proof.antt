@@ -9,32 +9,32 @@ use Rattle.classes.proofs.all_done.Statement.{statement}
 use Rattle.classes.proofs.all_done.Tie as tie
 
 abbrev Inv-loop : tie.InvT-loop
-Inv-loop n done c₀ c = (c ≤ n + 1) × ((i : ℕ) → i < c → On done i)
+Inv-loop done n c₀ c = (c ≤ n + 1) × ((i : ℕ) → i < c → On done i)
 
 abbrev μ-loop : tie.MeasureT-loop
-μ-loop n done c₀ c = n + 1 - c
+μ-loop done n c₀ c = n + 1 - c
 
 loop-holds : tie.Need-loop-holds Inv-loop μ-loop
 loop-holds c = (search needs, λ i h. absurd (omega arith))
 
-array-read-if1 : tie.Need-array-read-if1 Inv-loop μ-loop
-array-read-if1 c = omega (arith, c .before .before .pre)
+element-copy-out-if1 : tie.Need-element-copy-out-if1 Inv-loop μ-loop
+element-copy-out-if1 c = omega (arith, c .before .before .pre)
 
 returns : tie.Need-returns Inv-loop μ-loop
 returns c =
-    let l = c .before .before in
+    let l = c .before .before .before in
     record { yes = λ e. absurd (false≢true e); no = λ _. (l .loop .c, omega arith, c .if1 .taken) }
 
 add-c : tie.Need-add-c Inv-loop μ-loop
-add-c c = omega (arith, c .before .before .before .pre)
+add-c c = omega (arith, c .before .before .before .before .pre)
 
 loop-less : tie.Need-loop-less Inv-loop μ-loop
 loop-less c = omega arith
 
 loop-again : tie.Need-loop-again Inv-loop μ-loop
 loop-again c =
-    let l = c .before .before in
-    (omega arith, below-more (On (l .before .args .t1)) (l .loop .c) (l .loop .inv .1) (c .if1 .left))
+    let l = c .before .before .before in
+    (omega arith, below-more (On (l .before .args .done .now)) (l .loop .c) (l .loop .inv .1) (c .if1 .left))
 
 returns-2 : tie.Need-returns-2 Inv-loop μ-loop
 returns-2 c =
@@ -48,7 +48,7 @@ all-done-spec =
     Inv-loop
     μ-loop
     loop-holds
-    array-read-if1
+    element-copy-out-if1
     returns
     add-c
     loop-less

@@ -21,29 +21,29 @@ same-requires c κs = search needs
 returns : tie.Need-returns
 returns c =
     let q = c .before .before in
-    let s = q .before in
+    let s = q .before .before in
     let a = s .args in
     let T = tableAt (a .kind .now) (a .first .now) (a .second .now) in
-    let (no-at, shut-at) = tag-none (a .n) T (a .rep) (a .c) (q .differ .result) (c .same .result) (c .before .match .keys2) (q .differ .ensures) (c .same .ensures) in
-    record { no = no-at; yes = λ _. moved-none (a .rep) (s .pre .1); shut = λ e _. shut-at e }
+    let (no-at, shut-at) = tag-none (a .n) T (a .rep .now) (a .c) (q .differ .result) (c .same .result) (c .before .match .keys2) (q .differ .ensures) (c .same .ensures) in
+    record { no = no-at; yes = λ _. moved-none (a .rep .now) (s .pre .1); shut = λ e _. shut-at e }
 
 join-requires : tie.Need-join-requires
 join-requires c κs =
-    let q = c .before .before .before in
-    let s = q .before in
+    let q = c .before .before .before .before in
+    let s = q .before .before in
     let a = s .args in
-    let g = c .before .d .given in
-    let asks : Asks (a .n) (tableAt (a .kind .now) (a .first .now) (a .second .now)) (a .rep) (a .c) (Parts (g .0 .0) (g .0 .1 .0)) = rw (g .1) at (q .differ .ensures) in
+    let g = c .before .before .d .given in
+    let asks : Asks (a .n) (tableAt (a .kind .now) (a .first .now) (a .second .now)) (a .rep .now) (a .c) (Parts (g .0 .0) (g .0 .1 .0)) = rw (g .1) at (q .differ .ensures) in
     (s .pre .0, (s .pre .1, (asks .0, asks .1)))
 
 returns-2 : tie.Need-returns-2
 returns-2 c =
-    let q = c .before .before .before .before in
-    let s = q .before in
+    let q = c .before .before .before .before .before in
+    let s = q .before .before in
     let a = s .args in
     let T = tableAt (a .kind .now) (a .first .now) (a .second .now) in
-    let g = c .before .before .d .given in
-    let asks : Asks (a .n) T (a .rep) (a .c) (Parts (g .0 .0) (g .0 .1 .0)) = rw (g .1) at (q .differ .ensures) in
+    let g = c .before .before .before .d .given in
+    let asks : Asks (a .n) T (a .rep .now) (a .c) (Parts (g .0 .0) (g .0 .1 .0)) = rw (g .1) at (q .differ .ensures) in
     record {
       no = λ e. absurd (true≢false e);
       yes = λ _. moved-join (c .join .ensures) (c .join .ensures .kept) (asks .2) (asks .3);

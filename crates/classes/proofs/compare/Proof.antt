@@ -19,7 +19,7 @@ returns c =
     let e1 = e2 .before in
     let w = e1 .before .pre in
     let a = e1 .before .args in
-    told-kinds (classAt (a .rep)) (getD (a .kind .now) (a .c) 0) (getD (a .kind .now) (a .d) 0) (getD (a .first .now) (a .c) 0) (getD (a .second .now) (a .c) 0)
+    told-kinds (classAt (a .rep .now)) (getD (a .kind .now) (a .c) 0) (getD (a .kind .now) (a .d) 0) (getD (a .first .now) (a .c) 0) (getD (a .second .now) (a .c) 0)
     (getD (a .first .now) (a .d) 0) (getD (a .second .now) (a .d) 0) (w .known (a .c)) (w .known (a .d))
     (λ e. c .if1 .taken (e1 .entry .ensures ∙ e ∙ sym (e2 .entry2 .ensures)))
 
@@ -50,7 +50,7 @@ returns-2 c =
     let e2 = i .before in
     let e1 = e2 .before in
     let a = e1 .before .args in
-    told-cells (classAt (a .rep)) (a .kind .now) (a .first .now) (a .second .now) (a .c) (a .d) (c .fields .result) (e1 .entry .result)
+    told-cells (classAt (a .rep .now)) (a .kind .now) (a .first .now) (a .second .now) (a .c) (a .d) (c .fields .result) (e1 .entry .result)
     (e3 .entry3 .result) (e4 .entry4 .result) (e5 .entry5 .result) (e6 .entry6 .result)
     (e1 .entry .ensures) (i .if1 .left ∙ e2 .entry2 .ensures) (e3 .entry3 .ensures) (e4 .entry4 .ensures) (e5 .entry5 .ensures) (e6 .entry6 .ensures) (c .fields .ensures)
 

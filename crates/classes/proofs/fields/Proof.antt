@@ -10,7 +10,7 @@ use Rattle.classes.proofs.fields.Tie as tie
 returns : tie.Need-returns
 returns c =
     let a = c .before .args in
-    fields-var (classAt (a .rep)) (a .k) (a .a) (a .b) (a .x) (a .y) (c .if1 .taken)
+    fields-var (classAt (a .rep .now)) (a .k) (a .a) (a .b) (a .x) (a .y) (c .if1 .taken)
 
 both-requires : tie.Need-both-requires
 both-requires c κs = search needs
@@ -18,7 +18,7 @@ both-requires c κs = search needs
 returns-2 : tie.Need-returns-2
 returns-2 c =
     let a = c .before .before .before .args in
-    fields-pair (classAt (a .rep)) (a .k) (a .a) (a .b) (a .x) (a .y) (c .both .result) (c .before .if2 .taken) (c .both .ensures)
+    fields-pair (classAt (a .rep .now)) (a .k) (a .a) (a .b) (a .x) (a .y) (c .both .result) (c .before .if2 .taken) (c .both .ensures)
 
 both-requires-2 : tie.Need-both-requires-2
 both-requires-2 c κs = search needs
@@ -26,7 +26,7 @@ both-requires-2 c κs = search needs
 returns-3 : tie.Need-returns-3
 returns-3 c =
     let a = c .before .before .before .before .args in
-    fields-seal (classAt (a .rep)) (a .k) (a .a) (a .b) (a .x) (a .y) (c .both2 .result) (c .before .if3 .taken) (c .both2 .ensures)
+    fields-seal (classAt (a .rep .now)) (a .k) (a .a) (a .b) (a .x) (a .y) (c .both2 .result) (c .before .if3 .taken) (c .both2 .ensures)
 
 returns-4 : tie.Need-returns-4
 returns-4 c =
@@ -34,7 +34,7 @@ returns-4 c =
     let f = c .before .before .before .before .fits in
     let i = c .before in
     let k = name-or-app (a .k) (i .before .before .before .pre) (i .before .before .if1 .left) (i .before .if2 .left) (i .if3 .left) in
-    fields-first (classAt (a .rep)) (a .k) (a .a) (a .b) (a .x) (a .y) k (omega (arith, f .b)) (omega (arith, f .y)) (c .if4 .taken)
+    fields-first (classAt (a .rep .now)) (a .k) (a .a) (a .b) (a .x) (a .y) k (omega (arith, f .b)) (omega (arith, f .y)) (c .if4 .taken)
 
 part-requires : tie.Need-part-requires
 part-requires c κs = search needs
@@ -42,19 +42,19 @@ part-requires c κs = search needs
 returns-5 : tie.Need-returns-5
 returns-5 c =
     let a = c .before .before .before .before .before .before .args in
-    fields-app (classAt (a .rep)) (a .k) (a .a) (a .b) (a .x) (a .y) (c .part .result) (c .before .if5 .taken) (c .before .before .if4 .left) (c .part .ensures)
+    fields-app (classAt (a .rep .now)) (a .k) (a .a) (a .b) (a .x) (a .y) (c .part .result) (c .before .if5 .taken) (c .before .before .if4 .left) (c .part .ensures)
 
 returns-6 : tie.Need-returns-6
 returns-6 c =
     let a = c .before .before .before .before .before .before .args in
     let z : a .k ≡ 0 = omega (arith, c .before .before .before .before .before .before .pre) in
-    fields-names (classAt (a .rep)) (a .k) (a .a) (a .b) (a .x) (a .y) z (c .before .before .if4 .left) (c .if6 .taken)
+    fields-names (classAt (a .rep .now)) (a .k) (a .a) (a .b) (a .x) (a .y) z (c .before .before .if4 .left) (c .if6 .taken)
 
 returns-7 : tie.Need-returns-7
 returns-7 c =
     let a = c .before .before .before .before .before .before .args in
     let z : a .k ≡ 0 = omega (arith, c .before .before .before .before .before .before .pre) in
-    fields-name (classAt (a .rep)) (a .k) (a .a) (a .b) (a .x) (a .y) z (c .before .before .if4 .left) (c .if6 .left)
+    fields-name (classAt (a .rep .now)) (a .k) (a .a) (a .b) (a .x) (a .y) z (c .before .before .if4 .left) (c .if6 .left)
 
 pub fields-spec : {M : Type 1} → statement M
 fields-spec =

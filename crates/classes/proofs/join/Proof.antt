@@ -16,10 +16,10 @@ class-of-requires-2 c κs = search needs
 returns : tie.Need-returns
 returns c =
     let q = c .before in
-    let s = q .before .before in
+    let s = q .before .before .before .before in
     let a = s .args in
-    join-same (a .n) (tableAt (a .kind .now) (a .first .now) (a .second .now)) (a .rep) (s .pre .0 .few) (s .pre .1 .0) (a .a) (a .b)
-    (sym (q .before .class-of .ensures) ∙ c .if1 .taken ∙ q .class-of2 .ensures)
+    join-same (a .n) (tableAt (a .kind .now) (a .first .now) (a .second .now)) (a .t5) (s .pre .0 .few) (s .pre .1 .0) (a .a) (a .b)
+    (sym (q .before .before .class-of .ensures) ∙ c .if1 .taken ∙ q .class-of2 .ensures)
 
 stands-requires : tie.Need-stands-requires
 stands-requires c κs = search needs
@@ -31,11 +31,11 @@ returns-2 : tie.Need-returns-2
 returns-2 c =
     let t = c .before .before in
     let q = t .before .before in
-    let s = q .before .before in
+    let s = q .before .before .before .before in
     let a = s .args in
-    let x : c .before .before .before .before .before .class-of .result ≡ classAt (a .rep) (a .a) = q .before .class-of .ensures in
-    let y : q .class-of2 .result ≡ classAt (a .rep) (a .b) = q .class-of2 .ensures in
-    join-relabel (a .n) (tableAt (a .kind .now) (a .first .now) (a .second .now)) (a .rep) (s .pre .0 .few) (s .pre .1 .0) (a .a) (a .b) (s .pre .1 .1 .0) (s .pre .1 .1 .1) (c .relabel .result)
+    let x : q .before .before .class-of .result ≡ classAt (a .t5) (a .a) = q .before .before .class-of .ensures in
+    let y : q .class-of2 .result ≡ classAt (a .t5) (a .b) = q .class-of2 .ensures in
+    join-relabel (a .n) (tableAt (a .kind .now) (a .first .now) (a .second .now)) (a .t5) (s .pre .0 .few) (s .pre .1 .0) (a .a) (a .b) (s .pre .1 .1 .0) (s .pre .1 .1 .1) (c .relabel .result)
     (λ e. t .before .if1 .left (x ∙ e ∙ sym y)) (rw (x, y) at (t .stands .ensures .0 (c .before .if2 .taken))) (rw (x, y) at (c .relabel .ensures))
 
 relabel-requires-2 : tie.Need-relabel-requires-2
@@ -45,13 +45,13 @@ returns-3 : tie.Need-returns-3
 returns-3 c =
     let t = c .before .before in
     let q = t .before .before in
-    let s = q .before .before in
+    let s = q .before .before .before .before in
     let a = s .args in
-    let x : c .before .before .before .before .before .class-of .result ≡ classAt (a .rep) (a .a) = q .before .class-of .ensures in
-    let y : q .class-of2 .result ≡ classAt (a .rep) (a .b) = q .class-of2 .ensures in
+    let x : q .before .before .class-of .result ≡ classAt (a .t5) (a .a) = q .before .before .class-of .ensures in
+    let y : q .class-of2 .result ≡ classAt (a .t5) (a .b) = q .class-of2 .ensures in
     let T = tableAt (a .kind .now) (a .first .now) (a .second .now) in
-    joined-sym (a .n) T (a .rep) (a .b) (a .a) (c .relabel2 .result)
-    (join-relabel (a .n) T (a .rep) (s .pre .0 .few) (s .pre .1 .0) (a .b) (a .a) (s .pre .1 .1 .1) (s .pre .1 .1 .0) (c .relabel2 .result)
+    joined-sym (a .n) T (a .t5) (a .b) (a .a) (c .relabel2 .result)
+    (join-relabel (a .n) T (a .t5) (s .pre .0 .few) (s .pre .1 .0) (a .b) (a .a) (s .pre .1 .1 .1) (s .pre .1 .1 .0) (c .relabel2 .result)
     (λ e. t .before .if1 .left (x ∙ sym e ∙ sym y)) (rw (x, y) at (t .stands .ensures .1 (c .before .if2 .left))) (rw (x, y) at (c .relabel2 .ensures)))
 
 pub join-spec : {M : Type 1} → statement M

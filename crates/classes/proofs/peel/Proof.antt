@@ -20,19 +20,19 @@ abbrev μ-loop : tie.MeasureT-loop
 loop-holds : tie.Need-loop-holds Inv-loop μ-loop
 loop-holds c =
     let a = c .args in
-    (peels-none (classTable (tableAt (a .kind .now) (a .first .now) (a .second .now)) (a .rep)) (a .start) (c .pre .1), search needs)
+    (peels-none (classTable (tableAt (a .kind .now) (a .first .now) (a .second .now)) (a .rep .now)) (a .start) (c .pre .1), search needs)
 
 cast-fresh : tie.Need-cast-fresh Inv-loop μ-loop
-cast-fresh c = omega (arith, c .before .before .pre .0 .few)
+cast-fresh c = omega (arith, c .before .before .before .pre .0 .few)
 
 fresh-requires : tie.Need-fresh-requires Inv-loop μ-loop
-fresh-requires c κs = c .before .before .pre .0
+fresh-requires c κs = let l = c .before .before in (l .before .pre .0, l .loop .inv .0 .peeled .long)
 
 array-write-done : tie.Need-array-write-done Inv-loop μ-loop
-array-write-done c = omega (arith, c .before .before .before .before .pre .0 .few)
+array-write-done c = omega (arith, c .before .before .before .before .before .pre .0 .few)
 
 add-c : tie.Need-add-c Inv-loop μ-loop
-add-c c = omega (arith, c .before .before .before .before .pre .0 .few)
+add-c c = omega (arith, c .before .before .before .before .before .pre .0 .few)
 
 loop-less : tie.Need-loop-less Inv-loop μ-loop
 loop-less c = omega arith
@@ -40,11 +40,11 @@ loop-less c = omega arith
 loop-again : tie.Need-loop-again Inv-loop μ-loop
 loop-again c =
     let f = c .before in
-    let l = f .before .before in
+    let l = f .before .before .before in
     let s = l .before in
     let a = s .args in
     let v = l .loop in
-    let S = classTable (tableAt (a .kind .now) (a .first .now) (a .second .now)) (a .rep) in
+    let S = classTable (tableAt (a .kind .now) (a .first .now) (a .second .now)) (a .rep .now) in
     let small : v .c < 129 = omega (arith, s .pre .0 .few) in (
       ⊎-elim
           (λ w. rw (w .1, w .2) (peels-mark S (a .start) (v .c) (v .done) (v .changed) (v .inv .0) small (subst (Fresh S (v .done) (v .c)) (w .0 .taken) (f .fresh .ensures))))
@@ -57,7 +57,7 @@ returns : tie.Need-returns Inv-loop μ-loop
 returns c =
     let l = c .before in
     let a = l .before .args in
-    subst (λ (i : ℕ). Peels (classTable (tableAt (a .kind .now) (a .first .now) (a .second .now)) (a .rep)) (a .start) i (l .loop .done) (l .loop .changed)) (omega arith) (l .loop .inv .0)
+    subst (λ (i : ℕ). Peels (classTable (tableAt (a .kind .now) (a .first .now) (a .second .now)) (a .rep .now)) (a .start) i (l .loop .done) (l .loop .changed)) (omega arith) (l .loop .inv .0)
 
 pub peel-spec : {M : Type 1} → statement M
 peel-spec =

@@ -23,7 +23,7 @@ loop-holds : tie.Need-loop-holds Inv-loop μ-loop
 loop-holds c = (search needs, search needs, λ i h. absurd (omega arith))
 
 twin-requires : tie.Need-twin-requires Inv-loop μ-loop
-twin-requires c κs = c .before .before .pre
+twin-requires c κs = c .before .before .before .pre
 
 cast-i : tie.Need-cast-i Inv-loop μ-loop
 cast-i c = search needs
@@ -39,7 +39,7 @@ loop-less c = omega arith
 
 loop-again : tie.Need-loop-again Inv-loop μ-loop
 loop-again c =
-    let l = c .before .before in
+    let l = c .before .before .before in
     let s = l .before in
     let a = s .args in
     let v = l .loop in (

@@ -3,8 +3,8 @@ use native.Mathlib.Omega.{arith}
 use borrow.Author.Needs.{needs}
 use borrow.Author.Tests.{not-true, not-false}
 use Prim.Native.Nat.{_≤_, _-_, _+_}
-use mathlib.Core.Path.{_≡_, sym, _∙_}
-use mathlib.Core.Bool.{true, false, true≢false}
+use mathlib.Core.Path.{_≡_}
+use mathlib.Core.Bool.{true, false, true≢false, false≢true}
 use Rattle.model.specs.Stored.{tableAt}
 use Rattle.classes.specs.Kept.{classCount}
 use Rattle.classes.proofs.SettleLaws.{Sweeping, sweeping-none, sweeping-more, sweeping-stay, sweeping-no}
@@ -28,32 +28,32 @@ sub-bind : tie.Need-sub-bind Inv-loop μ-loop
 sub-bind c = omega arith
 
 cast-bind : tie.Need-cast-bind Inv-loop μ-loop
-cast-bind c = omega (arith, c .before .before .pre .0 .few)
+cast-bind c = omega (arith, c .before .before .before .pre .0 .few)
 
 bind-requires : tie.Need-bind-requires Inv-loop μ-loop
-bind-requires c κs = (c .before .before .pre .0, c .before .loop .inv .0 .moved .holds)
+bind-requires c κs = let l = c .before .before in (l .before .pre .0, l .loop .inv .0 .moved .holds)
 
 returns : tie.Need-returns Inv-loop μ-loop
 returns c =
     let b = c .before .before in
-    let l = b .before .before in
+    let l = b .before .before .before in
     let bad : b .bind .result .ok ≡ false = not-true _ (c .if1 .taken) in
     record {
       no = λ _. sweeping-no (l .loop .inv .0) (b .bind .ensures .no bad);
-      yes = λ e. absurd (true≢false (sym e ∙ bad));
-      shut = λ e. absurd (true≢false (sym e ∙ bad));
+      yes = λ e. absurd (false≢true e);
+      shut = λ e. absurd (false≢true e);
     }
 
 loop-less : tie.Need-loop-less Inv-loop μ-loop
 loop-less c =
-    let e = c .before .before in
+    let e = c .before in
     omega (arith, e .before .before .bind .ensures .yes (not-false _ (e .if1 .left)) .fewer (c .if2 .taken))
 
 loop-again : tie.Need-loop-again Inv-loop μ-loop
 loop-again c =
-    let e = c .before .before in
+    let e = c .before in
     let b = e .before .before in
-    let l = b .before .before in
+    let l = b .before .before .before in
     (sweeping-more (l .loop .inv .0) (b .bind .ensures .yes (not-false _ (e .if1 .left))) (c .if2 .taken), omega arith)
 
 sub-c : tie.Need-sub-c Inv-loop μ-loop
@@ -61,14 +61,14 @@ sub-c c = omega arith
 
 loop-less-2 : tie.Need-loop-less-2 Inv-loop μ-loop
 loop-less-2 c =
-    let e = c .before .before in
+    let e = c .before in
     omega (arith, e .before .before .bind .ensures .yes (not-false _ (e .if1 .left)) .most)
 
 loop-again-2 : tie.Need-loop-again-2 Inv-loop μ-loop
 loop-again-2 c =
-    let e = c .before .before in
+    let e = c .before in
     let b = e .before .before in
-    let l = b .before .before in
+    let l = b .before .before .before in
     let good : b .bind .result .ok ≡ true = not-false _ (e .if1 .left) in
     let quiet = c .if2 .left in
     (sweeping-stay (l .loop .inv .0) (b .bind .ensures .yes good) quiet (b .bind .ensures .shut good quiet), omega arith)

@@ -40,8 +40,8 @@ loop-again c =
     let a = l .before .args in
     let T = tableAt (a .kind .now) (a .first .now) (a .second .now) in (
       omega arith,
-      below-more (λ (i : ℕ). Alike (classAt (a .rep)) (T (a .c)) (T i) → ⊥) (l .loop .d) (l .loop .inv .1)
-          (told-apart (classAt (a .rep)) (T (a .c)) (T (l .loop .d)) (q .compare .result) (q .compare .ensures) (tag-apart _ (c .match .keys2))),
+      below-more (λ (i : ℕ). Alike (classAt (a .rep .now)) (T (a .c)) (T i) → ⊥) (l .loop .d) (l .loop .inv .1)
+          (told-apart (classAt (a .rep .now)) (T (a .c)) (T (l .loop .d)) (q .compare .result) (q .compare .ensures) (tag-apart _ (c .match .keys2))),
     )
 
 returns : tie.Need-returns Inv-loop μ-loop

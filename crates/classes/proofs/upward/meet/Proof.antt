@@ -19,26 +19,26 @@ class-of-requires-2 c κs = search needs
 returns : tie.Need-returns
 returns c =
     let q = c .before in
-    let t = q .before .before in
-    let s = t .before in
+    let t = q .before .before .before .before in
+    let s = t .before .before in
     let a = s .args in
-    meets-same (a .n) (tableAt (a .kind .now) (a .first .now) (a .second .now)) (a .rep) (s .pre .1 .0) (a .c) (t .twin .result) (t .twin .ensures)
-    (sym (q .before .class-of .ensures) ∙ c .if1 .taken ∙ q .class-of2 .ensures)
+    meets-same (a .n) (tableAt (a .kind .now) (a .first .now) (a .second .now)) (a .t5) (s .pre .1 .0) (a .c) (t .twin .result) (t .twin .ensures)
+    (sym (q .before .before .class-of .ensures) ∙ c .if1 .taken ∙ q .class-of2 .ensures)
 
 join-requires : tie.Need-join-requires
 join-requires c κs =
-    let t = c .before .before .before in
-    let s = t .before in
+    let t = c .before .before .before .before .before in
+    let s = t .before .before in
     (s .pre .0, (s .pre .1 .0 .kept, (omega (arith, t .twin .ensures .low, s .pre .1 .1), s .pre .1 .1)))
 
 returns-2 : tie.Need-returns-2
 returns-2 c =
     let q = c .before .before in
-    let t = q .before .before in
-    let s = t .before in
+    let t = q .before .before .before .before in
+    let s = t .before .before in
     let a = s .args in
-    meets-join (a .n) (tableAt (a .kind .now) (a .first .now) (a .second .now)) (a .rep) (s .pre .1 .0) (a .c) (t .twin .result) (t .twin .ensures) (c .join .result)
-    (λ e. c .before .if1 .left (q .before .class-of .ensures ∙ e ∙ sym (q .class-of2 .ensures))) (c .join .ensures)
+    meets-join (a .n) (tableAt (a .kind .now) (a .first .now) (a .second .now)) (a .t5) (s .pre .1 .0) (a .c) (t .twin .result) (t .twin .ensures) (c .join .result)
+    (λ e. c .before .if1 .left (q .before .before .class-of .ensures ∙ e ∙ sym (q .class-of2 .ensures))) (c .join .ensures)
 
 pub meet-spec : {M : Type 1} → statement M
 meet-spec =
