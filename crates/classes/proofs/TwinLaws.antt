@@ -60,6 +60,14 @@ module _ (T : Table) (low : Lower T) where
         least = λ d h t. w .miss d (omega arith) (alike-below g f c c d (λ i l. sym (same i l)) (omega arith) (omega (arith, w .low)) t);
       }
 
+  -- A cell above n that is as n has the lowest twin of n.
+  pub twin-as : (f : ℕ → ℕ) (n c : ℕ) → n < c → T c ≡ T n → (T n ≡ VA → ⊥) → First T f n → Twin T f c (f n)
+  twin-as f n c h e s w = record {
+    low = omega (arith, w .low);
+    hit = λ _. subst (λ k. Alike f k (T (f n))) (sym e) (w .same s);
+    miss = λ d l t. w .least d l (subst (λ k. Alike f k (T d)) e t);
+  }
+
   -- The entries below c are as they should be: c gets its lowest twin.
   pub firsts-more : (rep : List ℕ) (c r : ℕ) → length rep ≡ 129 → c ≤ 128 → ((i : ℕ) → i < c → First T (classAt rep) i) → Twin T (classAt rep) c r →
       (i : ℕ) → i < c + 1 → First T (classAt (set rep c r)) i

@@ -3,7 +3,7 @@ pub mod upward;
 
 ghost use mathlib.Core.Path.{_≡_};
 ghost use mathlib.Core.Bool.{true, false};
-ghost use Prim.Native.Nat.{_+_, _<_, _≤_};
+ghost use Prim.Native.Nat.{ℕ, _+_, _<_, _≤_};
 ghost use lib.Dec.{eqb};
 ghost use lib.ListN.{length, getD};
 ghost use Rattle.model.specs.Message.{Two};
@@ -12,7 +12,7 @@ ghost use Rattle.model.specs.Stored.{cellAt, tableAt};
 ghost use Rattle.theory.specs.Cells.{Rows, classAt};
 ghost use Rattle.classes.specs.Kept.{Short, Finite, Unmet, Kept, Stands, Relabelled, Joined};
 ghost use Rattle.classes.specs.Differ.{Told, PartTold};
-ghost use Rattle.classes.specs.Twins.{Twin, Start};
+ghost use Rattle.classes.specs.Twins.{First, Twin, Start};
 ghost use Rattle.classes.specs.Settle.{Asks, sameOf, Bound, Sweeps, Settles, Unifies};
 ghost use Rattle.classes.specs.Peel.{Done, classTable, Peeled, Fresh, Peels, AllDone};
 
@@ -232,6 +232,26 @@ fn twin<'a>(
     c
 }
 
+// The lowest cell that is alike c, where the entries below c are right. The cells beyond the table's all show his own name: their class is that of the first of them.
+fn lowest<'a>(
+    kind: &'a [u8; 128],
+    first: &'a [u8; 128],
+    second: &'a [u8; 128],
+    n: usize,
+    rep: &'a [u8; 129],
+    c: u8,
+) -> u8
+    requires { ⌜ Rows n (now kind) (now first) (now second) ⌝ }
+    requires { ⌜ c ≤ 128 ⌝ }
+    requires { ⌜ ((i : ℕ) → i < c → First (tableAt (now kind) (now first) (now second)) (classAt (now rep)) i) ⌝ }
+    ensures { λ r. ⌜ Twin (tableAt (now (kind .entry)) (now (first .entry)) (now (second .entry))) (classAt (now (rep .entry))) c r ⌝ }
+{
+    if n < c as usize {
+        return rep[n];
+    }
+    twin(kind, first, second, n, rep, c)
+}
+
 // The first class array: cells that show equal trees are one class, upwards from the lowest cell.
 pub fn start<'a>(
     kind: &'a [u8; 128],
@@ -245,7 +265,7 @@ pub fn start<'a>(
     let mut rep = [0u8; 129];
     let mut c: u8 = 0;
     while c < 129 {
-        let t = twin(kind, first, second, n, &rep, c);
+        let t = lowest(kind, first, second, n, &rep, c);
         let i = c as usize;
         rep[i] = t;
         c += 1;

@@ -22,8 +22,8 @@ abbrev μ-loop : tie.MeasureT-loop
 loop-holds : tie.Need-loop-holds Inv-loop μ-loop
 loop-holds c = (search needs, search needs, λ i h. absurd (omega arith))
 
-twin-requires : tie.Need-twin-requires Inv-loop μ-loop
-twin-requires c κs = c .before .before .before .pre
+lowest-requires : tie.Need-lowest-requires Inv-loop μ-loop
+lowest-requires c κs = let l = c .before .before in (l .before .pre, (omega arith, l .loop .inv .2))
 
 cast-i : tie.Need-cast-i Inv-loop μ-loop
 cast-i c = search needs
@@ -43,9 +43,9 @@ loop-again c =
     let s = l .before in
     let a = s .args in
     let v = l .loop in (
-      length-set (v .rep) (v .c) (c .twin .result) ∙ v .inv .0,
+      length-set (v .rep) (v .c) (c .lowest .result) ∙ v .inv .0,
       omega arith,
-      firsts-more (tableAt (a .kind .now) (a .first .now) (a .second .now)) (s .pre .lower) (v .rep) (v .c) (c .twin .result) (v .inv .0) (omega arith) (v .inv .2) (c .twin .ensures),
+      firsts-more (tableAt (a .kind .now) (a .first .now) (a .second .now)) (s .pre .lower) (v .rep) (v .c) (c .lowest .result) (v .inv .0) (omega arith) (v .inv .2) (c .lowest .ensures),
     )
 
 returns : tie.Need-returns Inv-loop μ-loop
@@ -65,7 +65,7 @@ start-spec =
     Inv-loop
     μ-loop
     loop-holds
-    twin-requires
+    lowest-requires
     cast-i
     array-write-rep
     add-c
