@@ -13,6 +13,7 @@ use Rattle.model.specs.Case.{File}
 use Rattle.model.specs.Format.{Reading, readFile, firstVariable}
 use Rattle.model.specs.Replies.{MarkList, laid, messagesOf, HeardOf, set, unset}
 use Rattle.model.specs.Replies.{Marked as Mark}
+use Rattle.model.proofs.Settled.{both}
 use Rattle.model.proofs.Read.{clash}
 use Rattle.theory.specs.Cells.{classAt}
 use Rattle.knowledge.specs.declared.heard.Knowledge.{Knowledge}
@@ -86,9 +87,6 @@ pub mark-list-one : (f : File) (l m : List ℕ) → MarkList f l → MarkList f 
 mark-list-one f l m (v, n, a) (w, k, b) = ext-getD 0 l m (n ∙ sym k) (λ i h. mark-one (a i (omega arith)) (b i (omega arith)))
 
 module _ {file before : List ℕ} {r r′ : Marked} {after after′ : List ℕ} (p : MarksPromise file before r after) (q : MarksPromise file before r′ after′) where
-  both : {x y z : Marked} {a b c : List ℕ} → (x ≡ z) × (a ≡ c) → (y ≡ z) × (b ≡ c) → (x ≡ y) × (a ≡ b)
-  both (e, i) (f, j) = (e ∙ sym f, i ∙ sym j)
-
   settled-file : (f : File) → readFile file ≡ Reading.accepted f → (o : Option ℕ) → firstVariable (f .cells) ≡ o → (r ≡ r′) × (after ≡ after′)
   settled-file f e (some at) v = both (p .variable f at e v) (q .variable f at e v)
   settled-file f e none v = elim (decLt (length before) (length (f .cells))) [

@@ -1,7 +1,7 @@
 -- From what is read of the bytes and the reply on the stored table to the promise; and that the promise settles the reply.
 use mathlib.Core.Path.{_≡_, refl, sym, _∙_, ap, subst}
 use mathlib.Core.List.{List}
-use mathlib.Core.Logic.{_⊎_, inl, inr}
+use mathlib.Core.Logic.{inl, inr}
 use Prim.Native.Nat.{ℕ}
 use native.Mathlib.Decide.{decLt}
 use native.Mathlib.Omega.{arith}
@@ -10,10 +10,11 @@ use Rattle.model.specs.Message.{Message}
 use Rattle.model.specs.Case.{File, tableOf, message}
 use Rattle.model.specs.Format.{readFile, Reading, refused, accepted}
 use Rattle.model.specs.Stored.{tableAt}
-use Rattle.model.specs.Replies.{EquatedBy, NeverEqual, SameButList, same, lists}
+use Rattle.model.specs.Replies.{EquatedBy, NeverEqual, SameButList}
 use Rattle.model.proofs.Read.{clash}
 use Rattle.model.proofs.Accepted.{accepted-file}
 use Rattle.model.proofs.Stored.{laid-front, laid-beyond}
+use Rattle.model.proofs.Settled.{NoOrList, refusals-alike, answers-alike}
 use Rattle.casefile.specs.declared.Case.{Case}
 use Rattle.casefile.proofs.CaseFile.{CaseFile, case-count, case-table}
 use Rattle.equating.specs.declared.Equated.{Equated}
@@ -92,47 +93,31 @@ module _ (file : List ℕ) (a b : ℕ) (before : List ℕ) (reply : Equated) (af
 
 module _ (file : List ℕ) (a b : ℕ) (before : List ℕ) (r r′ : Equated) (after after′ : List ℕ)
     (p : EquatePromise file a b before r after) (p′ : EquatePromise file a b before r′ after′) where
-  abbrev Alike : Type 0
-  Alike = (r ≡ r′) × SameButList (λ f. EquatedBy f a b) file before after after′
-
-  -- Two refusals are one.
-  refusals : {x : Equated} → (r ≡ x) × (after ≡ before) → (r′ ≡ x) × (after′ ≡ before) → Alike
-  refusals (e, k) (e′, k′) = (e ∙ sym e′, same (k ∙ sym k′))
-
-  module _ (f : File) (q : Answered file a b before f) where
-    -- One "no" is not beside a list.
-    mixed : {A : Type 0} → NeverEqual f a b → (list : List ℕ) → EquatedBy f a b list → A
-    mixed never list w = absurd (never-equated file f a b list (q .asked .read) never w)
-
-    answers : (r ≡ No) ⊎ (r ≡ Listed (length (f .cells))) → (r′ ≡ No) ⊎ (r′ ≡ Listed (length (f .cells))) → Alike
-    answers (inl e) (inl e′) = (e ∙ sym e′, same (p .no f q e .1 ∙ sym (p′ .no f q e′ .1)))
-    answers (inl e) (inr e′) = let (list, w, k) = p′ .listed f q e′ in mixed (p .no f q e .0) list w
-    answers (inr e) (inl e′) = let (list, w, k) = p .listed f q e in mixed (p′ .no f q e′ .0) list w
-    answers (inr e) (inr e′) =
-        let (list, w, k) = p .listed f q e in
-        let (list′, w′, k′) = p′ .listed f q e′ in
-        let n = length (f .cells) in (
-          e ∙ sym e′,
-          lists f list list′ (q .asked .read) w w′ k k′
-              (ap (drop n) k ∙ (laid-beyond list before n (w .0) ∙ (sym (laid-beyond list′ before n (w′ .0)) ∙ ap (drop n) (sym k′)))),
-        )
-
-  pub settled : Alike
+  pub settled : (r ≡ r′) × SameButList (λ f. EquatedBy f a b) file before after after′
   settled = go (readFile file) refl
     where
-      go : (x : Reading) → readFile file ≡ x → Alike
-      go (refused n at) e = refusals (p .unread n at e) (p′ .unread n at e)
+      alike : {x : Equated} → (r ≡ x) × (after ≡ before) → (r′ ≡ x) × (after′ ≡ before) → (r ≡ r′) × SameButList (λ f. EquatedBy f a b) file before after after′
+      alike = refusals-alike (λ f. EquatedBy f a b) file before
+
+      replies : (f : File) → Answered file a b before f → {r : Equated} {after : List ℕ} → EquatePromise file a b before r after →
+          NoOrList No (Listed (length (f .cells))) (NeverEqual f a b) (EquatedBy f a b) before r after
+      replies f q p = record { replied = p .replied f q; never = p .no f q; listed = p .listed f q }
+
+      asked : (f : File) → Asked file a b f → (r ≡ r′) × SameButList (λ f. EquatedBy f a b) file before after after′
+      asked f q = elim (decLt (length before) (length (f .cells))) [
+        | yes s ↦ alike (p .short f q s) (p′ .short f q s)
+        | no s ↦
+            (let room : Answered file a b before f = record { asked = q; room = omega arith } in
+            answers-alike (λ f. EquatedBy f a b) file before f (q .read) (λ list w. w .0) (λ never list w. never-equated file f a b list (q .read) never w)
+            (replies f room p) (replies f room p′))
+      ]
+
+      go : (x : Reading) → readFile file ≡ x → (r ≡ r′) × SameButList (λ f. EquatedBy f a b) file before after after′
+      go (refused n at) e = alike (p .unread n at e) (p′ .unread n at e)
       go (accepted f) e = elim (decLt a (length (f .cells))) [
-        | no o ↦ refusals (p .outside f e (inl (omega arith))) (p′ .outside f e (inl (omega arith)))
+        | no o ↦ alike (p .outside f e (inl (omega arith))) (p′ .outside f e (inl (omega arith)))
         | yes h ↦ elim (decLt b (length (f .cells))) [
-          | no o ↦ refusals (p .outside f e (inr (omega arith))) (p′ .outside f e (inr (omega arith)))
-          | yes k ↦ elim (decLt (length before) (length (f .cells))) [
-            | yes s ↦
-                (let q : Asked file a b f = record { read = e; first = h; second = k } in
-                refusals (p .short f q s) (p′ .short f q s))
-            | no s ↦
-                (let q : Answered file a b before f = record { asked = record { read = e; first = h; second = k }; room = omega arith } in
-                answers f q (p .replied f q) (p′ .replied f q))
-          ]
+          | no o ↦ alike (p .outside f e (inr (omega arith))) (p′ .outside f e (inr (omega arith)))
+          | yes k ↦ asked f (record { read = e; first = h; second = k })
         ]
       ]

@@ -9,6 +9,7 @@ pub mod Format
 pub mod Accepted
 pub mod Rows
 pub mod Stored
+pub mod Settled
 pub mod Fuel
 pub mod Prefix
 pub mod Places

@@ -11,6 +11,7 @@ use Rattle.model.specs.Message.{Message, Built}
 use Rattle.model.specs.Case.{File, tableOf}
 use Rattle.model.specs.Format.{Reading, readFile, fileBytes, firstVariable}
 use Rattle.model.specs.Replies.{HeardOf, messagesOf, ReducedTo, laid}
+use Rattle.model.proofs.Settled.{both}
 use Rattle.model.proofs.Read.{clash}
 use Rattle.theory.proofs.Reduce.{reduces-one}
 use Rattle.theory.proofs.Reduced.{Reduction, reduced-one}
@@ -97,9 +98,6 @@ module _ (file before : List ℕ) (f : File) (e : readFile file ≡ Reading.acce
 -- ---- the promise settles them
 
 module _ {file before : List ℕ} {r r′ : Reduced} {after after′ : List ℕ} (p : ReducePromise file before r after) (q : ReducePromise file before r′ after′) where
-  both : {x y z : Reduced} {a b c : List ℕ} → (x ≡ z) × (a ≡ c) → (y ≡ z) × (b ≡ c) → (x ≡ y) × (a ≡ b)
-  both (e, i) (f, j) = (e ∙ sym f, i ∙ sym j)
-
   settled-bytes : (f : File) (bytes : List ℕ) → readFile file ≡ Reading.accepted f → ReducedTo f bytes → (r ≡ r′) × (after ≡ after′)
   settled-bytes f bytes e t = elim (decLt (length before) (length bytes)) [
     | yes h ↦ both (p .short f bytes e t h) (q .short f bytes e t h)

@@ -2,7 +2,7 @@
 use mathlib.Core.Path.{_≡_, refl, sym, _∙_, ap, subst}
 use mathlib.Core.Bool.{true, false}
 use mathlib.Core.List.{List, _++_, append-assoc}
-use mathlib.Core.Logic.{_⊎_, inl, inr}
+use mathlib.Core.Logic.{inl, inr}
 use Prim.Native.Nat.{ℕ, suc, _+_, _≤_, _<_}
 use native.Mathlib.Decide.{decLt}
 use native.Mathlib.Numerals.{add-one}
@@ -12,10 +12,10 @@ use lib.Seq.{take-suc, drop-cons, set-at, length-take-le}
 use Rattle.model.specs.Case.{Table, Run, File, WellFormed, tableOf, runOf}
 use Rattle.model.specs.Format.{readFile, Reading, refused, accepted}
 use Rattle.model.specs.Stored.{tableAt, runAt}
-use Rattle.model.specs.Replies.{RightListed, NoneRight, laid, SameButList, same, lists}
+use Rattle.model.specs.Replies.{RightListed, NoneRight, laid, SameButList}
 use Rattle.model.proofs.Accepted.{accepted-file}
 use Rattle.model.proofs.Read.{clash, list-values}
-use Rattle.model.proofs.Stored.{laid-beyond}
+use Rattle.model.proofs.Settled.{NoOrList, refusals-alike, answers-alike}
 use Rattle.solving.specs.declared.search.Solution.{Solution}
 use Rattle.solving.specs.Searches.{Solves}
 use Rattle.casefile.specs.declared.Case.{Case}
@@ -98,31 +98,18 @@ pub no-and-yes : (file : List ℕ) (f : File) (list : List ℕ) → readFile fil
 no-and-yes file f list read none (form, right) = let (ρ, r) = list-values (tableOf (f .cells)) (runOf (f .events)) _ (accepted-file file f read .lower) right in none ρ r
 
 module _ (file before : List ℕ) (r r′ : Solved) (after after′ : List ℕ) (p : RunPromise file before r after) (p′ : RunPromise file before r′ after′) where
-  abbrev Alike : Type 0
-  Alike = (r ≡ r′) × SameButList RightListed file before after after′
-
-  refusals : {x : Solved} → (r ≡ x) × (after ≡ before) → (r′ ≡ x) × (after′ ≡ before) → Alike
-  refusals (e, k) (e′, k′) = (e ∙ sym e′, same (k ∙ sym k′))
-
-  answers : (f : File) (q : Answered file before f) → (r ≡ No) ⊎ (r ≡ Yes (length (f .cells))) → (r′ ≡ No) ⊎ (r′ ≡ Yes (length (f .cells))) → Alike
-  answers f q (inl e) (inl e′) = (e ∙ sym e′, same (p .no f q e .1 ∙ sym (p′ .no f q e′ .1)))
-  answers f q (inl e) (inr e′) = let (list, w, k) = p′ .yes f q e′ in absurd (no-and-yes file f list (q .read) (p .no f q e .0) w)
-  answers f q (inr e) (inl e′) = let (list, w, k) = p .yes f q e in absurd (no-and-yes file f list (q .read) (p′ .no f q e′ .0) w)
-  answers f q (inr e) (inr e′) =
-      let (list, w, k) = p .yes f q e in
-      let (list′, w′, k′) = p′ .yes f q e′ in
-      let n = length (f .cells) in (
-        e ∙ sym e′,
-        lists f list list′ (q .read) w w′ k k′
-            (ap (drop n) k ∙ (laid-beyond list before n (w .0 .size) ∙ (sym (laid-beyond list′ before n (w′ .0 .size)) ∙ ap (drop n) (sym k′)))),
-      )
-
-  pub settled : Alike
+  pub settled : (r ≡ r′) × SameButList RightListed file before after after′
   settled = go (readFile file) refl
     where
-      go : (x : Reading) → readFile file ≡ x → Alike
-      go (refused n at) e = refusals (p .unread n at e) (p′ .unread n at e)
+      replies : (f : File) → Answered file before f → {r : Solved} {after : List ℕ} → RunPromise file before r after →
+          NoOrList No (Yes (length (f .cells))) (NoneRight f) (RightListed f) before r after
+      replies f q p = record { replied = p .replied f q; never = p .no f q; listed = p .yes f q }
+
+      go : (x : Reading) → readFile file ≡ x → (r ≡ r′) × SameButList RightListed file before after after′
+      go (refused n at) e = refusals-alike RightListed file before (p .unread n at e) (p′ .unread n at e)
       go (accepted f) e = elim (decLt (length before) (length (f .cells))) [
-        | yes s ↦ refusals (p .short f e s) (p′ .short f e s)
-        | no s ↦ (let q : Answered file before f = record { read = e; room = omega arith } in answers f q (p .replied f q) (p′ .replied f q))
+        | yes s ↦ refusals-alike RightListed file before (p .short f e s) (p′ .short f e s)
+        | no s ↦
+            (let q : Answered file before f = record { read = e; room = omega arith } in
+            answers-alike RightListed file before f e (λ list w. w .0 .size) (λ none list w. no-and-yes file f list e none w) (replies f q p) (replies f q p′))
       ]
