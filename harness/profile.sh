@@ -1,10 +1,10 @@
 #!/usr/bin/env bash
 # Where the instructions of the library's run go: one line for each family, for its middle case by instructions. Needs valgrind, whose callgrind
-# counts the same on every run, and the harness built over the library (README.md). `colour` takes about four minutes, the rest seconds.
+# counts the same on every run, and the harness built over the library (README.md). A minute in all, nearly all of it `colour`.
 #   ./profile.sh [FAMILY...]
 set -euo pipefail
 cd "$(dirname "$0")"
-[ $# -gt 0 ] || set -- tower gen-random-65 gen-sessions-3 gen-sessions-5 gen-planted-4 gen-planted-8 nssk otway yahalom colour
+[ $# -gt 0 ] || set -- tower gen-planted-4 gen-planted-8 gen-random-65 nssk otway yahalom colour
 for name in prismfleece_run casefile::read_case classes::start classes::settle solving::search::search; do
     grep -qaF "$name" target/release/bench || { echo "target/release/bench has no function $name of its own: build it over libdesk.a" >&2; exit 1; }
 done
