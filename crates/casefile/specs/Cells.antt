@@ -64,6 +64,7 @@ sizeOf c = cond (eqb (c .kind) 1) 2 4
 abbrev pub stored : List case.Cell → Table
 stored cells = record { kind = row kind cells; first = row first cells; second = row second cells; cells = length cells }
 
+-- No cells.
 abbrev pub emptyTable : Table
 emptyTable = record { kind = replicate 128 0; first = replicate 128 0; second = replicate 128 0; cells = 0 }
 
@@ -124,6 +125,7 @@ abbrev pub cellsRead : List ℕ → Stop → ℕ → Table → Type 0
 cellsRead file stop.Events at t = Cut file at t
 cellsRead file (stop.Refused x) at t = readFile file ≡ Reading.refused x at
 
+-- The same of the reader's reply.
 abbrev pub CellsRead : List ℕ → Cells → Type 0
 CellsRead file r = cellsRead file (r .stop) (r .at) (r .table)
 

@@ -65,6 +65,7 @@ belowCells (step.Refused x) cells = step.Refused x
 abbrev pub storedEvents : List case.Event → Events
 storedEvents events = record { kind = row asks events; cell = row aim events; count = length events }
 
+-- No events.
 abbrev pub emptyEvents : Events
 emptyEvents = record { kind = replicate 128 0; cell = replicate 128 0; count = 0 }
 

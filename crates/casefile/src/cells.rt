@@ -6,7 +6,7 @@ ghost use mathlib.Core.Path.{_≡_};
 ghost use Prim.Native.Nat.{_+_, _<_};
 ghost use lib.ListN.{drop};
 ghost use Rattle.casefile.specs.Record.{markAt};
-ghost use Rattle.casefile.specs.Cells.{sectionOf, cellFor, partsBelow, sizeOf, emptyTable, withCell, cellSays, CellsRead, inCells};
+ghost use Rattle.casefile.specs.Cells.{cell, sectionOf, cellFor, partsBelow, sizeOf, emptyTable, withCell, cellSays, CellsRead, inCells};
 
 // A cell as it is stored: its kind, 0 to 4 for AT, VA, PR, SE, AP, and its two field bytes.
 pub struct Cell {
@@ -50,6 +50,7 @@ pub struct Cells {
     pub table: Table,
 }
 
+// The part of a file that a mark belongs to.
 pub fn section_of(mark: Mark) -> Section
     ensures { λ r. ⌜ r ≡ sectionOf mark ⌝ }
 {
@@ -67,51 +68,30 @@ pub fn section_of(mark: Mark) -> Section
     }
 }
 
+// A cell of this kind with these field bytes.
+fn stored_cell(kind: u8, first: u8, second: u8) -> Cell
+    ensures { λ c. ⌜ c ≡ cell kind first second ⌝ }
+{
+    Cell {
+        kind: kind,
+        first: first,
+        second: second,
+    }
+}
+
 // The cell of a cell record; of any other record an atom.
 pub fn cell_of(r: Record) -> Cell
     ensures { λ c. ⌜ c ≡ cellFor r ⌝ }
 {
     match r {
-        Record::Atom(n) => Cell {
-            kind: 0,
-            first: (n / 256) as u8,
-            second: (n % 256) as u8,
-        },
-        Record::Variable => Cell {
-            kind: 1,
-            first: 0,
-            second: 0,
-        },
-        Record::Pair(a, b) => Cell {
-            kind: 2,
-            first: a,
-            second: b,
-        },
-        Record::Seal(a, b) => Cell {
-            kind: 3,
-            first: a,
-            second: b,
-        },
-        Record::Apply(f, a) => Cell {
-            kind: 4,
-            first: f,
-            second: a,
-        },
-        Record::Make(a) => Cell {
-            kind: 0,
-            first: 0,
-            second: 0,
-        },
-        Record::Learn(a) => Cell {
-            kind: 0,
-            first: 0,
-            second: 0,
-        },
-        Record::End => Cell {
-            kind: 0,
-            first: 0,
-            second: 0,
-        },
+        Record::Atom(n) => stored_cell(0, (n / 256) as u8, (n % 256) as u8),
+        Record::Variable => stored_cell(1, 0, 0),
+        Record::Pair(a, b) => stored_cell(2, a, b),
+        Record::Seal(a, b) => stored_cell(3, a, b),
+        Record::Apply(f, a) => stored_cell(4, f, a),
+        Record::Make(a) => stored_cell(0, 0, 0),
+        Record::Learn(a) => stored_cell(0, 0, 0),
+        Record::End => stored_cell(0, 0, 0),
     }
 }
 
@@ -172,6 +152,7 @@ pub fn cell_step(file: &[u8], at: usize, n: usize) -> CellStep
     }
 }
 
+// The table without cells.
 pub fn empty_table() -> Table
     ensures { λ r. ⌜ r ≡ emptyTable ⌝ }
 {

@@ -40,6 +40,7 @@ pub struct EventsEnd {
     pub events: Events,
 }
 
+// Whether the mark is EN.
 pub fn is_end(mark: Mark) -> bool
     ensures { λ r. ⌜ r ≡ endMark mark ⌝ }
 {
@@ -194,6 +195,7 @@ pub fn is_loose(kind: &[u8; 128], held: [u8; 128], made: [u8; 128]) -> bool
     false
 }
 
+// No events.
 pub fn no_events() -> Events
     ensures { λ r. ⌜ r ≡ emptyEvents ⌝ }
 {

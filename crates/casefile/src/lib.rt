@@ -41,6 +41,7 @@ pub fn first_variable(kind: &[u8; 128], n: usize) -> Found
     Found::Nowhere
 }
 
+// The reply to a refused file.
 pub fn refused(number: u8, place: usize) -> Case
     ensures { λ r. ⌜ r ≡ refusal number place ⌝ }
 {

@@ -25,10 +25,11 @@ height (atom n) = 0
 height (one g a) = 1 + height a
 height (two h a b) = 1 + max (height a) (height b)
 
--- The number of a kind with one part, and with two: the kinds in the order AT, (VA,) PR, SE, AP.
+-- The kinds are numbered in the order AT, (VA,) PR, SE, AP. Those with one part:
 abbrev pub kind-one : One → ℕ
 kind-one (App f) = 4
 
+-- and those with two.
 abbrev pub kind-two : Two → ℕ
 kind-two Pair = 2
 kind-two Seal = 3

@@ -8,6 +8,7 @@ ghost use lib.ListN.{getD};
 ghost use Rattle.reducing.specs.Given.{Given};
 ghost use Rattle.reducing.specs.Plan.{tally, emptyPlan, putRow, Laid};
 
+// The plan without cells.
 pub fn empty_plan() -> Plan
     ensures { λ r. ⌜ r ≡ emptyPlan ⌝ }
 {

@@ -2,30 +2,17 @@
 // The reply depends on the first 899 bytes only, so a buffer of 2048 is enough.
 use casefile::events::Verdict;
 use libc::STDIN_FILENO;
-use libc::STDOUT_FILENO;
+use printing::print;
+use printing::print_number;
+use printing::print_refused;
 use running::Solved;
 
-fn print(text: &[u8]) {
-    io::write_all(STDOUT_FILENO, text);
-}
-
-fn print_number(n: usize) {
-    io::print_decimal(STDOUT_FILENO, n as u64);
-}
-
+// How many cells and events the file has.
 fn print_counts(cells: usize, events: usize) {
     print(b"cells ");
     print_number(cells);
     print(b" events ");
     print_number(events);
-    print(b"\n");
-}
-
-fn print_refused(number: u8, place: usize) {
-    print(b"refused ");
-    print_number(number as usize);
-    print(b" at ");
-    print_number(place);
     print(b"\n");
 }
 
@@ -55,6 +42,7 @@ fn print_values(kind: &[u8; 128], list: [u8; 128], n: usize) {
     }
 }
 
+// A refusal; or the counts and the reply to the run.
 fn answer(file: &[u8]) {
     let case = casefile::read_case(file);
     let verdict = case.verdict;

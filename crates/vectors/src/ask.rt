@@ -1,15 +1,15 @@
 // A question for each letter. `head` is the case from its letter to the file's length, `file` the file;
 // a reply is laid into `out`, which is longer than any room that a case asks for.
-use crate::print::print;
 use crate::print::print_hex;
 use crate::print::print_marks;
-use crate::print::print_number;
-use crate::print::print_refused;
 use building::Marked;
 use casefile::Found;
 use casefile::events::Verdict;
 use equating::Equated;
 use judging::Judged;
+use printing::print;
+use printing::print_number;
+use printing::print_refused;
 use reducing::Reduced;
 use running::Solved;
 
@@ -23,6 +23,7 @@ pub fn number_of(high: u8, low: u8) -> usize {
     high as usize * 256 + low as usize
 }
 
+// An accepted file: how many cells and events, and where the first variable stands.
 fn print_accepted(cells: usize, events: usize, variable: Found) {
     print(b"accepted ");
     print_number(cells);
