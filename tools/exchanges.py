@@ -225,6 +225,16 @@ def opened_late(e, way):
         e.make(q)
 
 
+def told_twice(e, other):
+    """A learnt application is made again with a value in it; the value, though its message was never seen, is what another application shows."""
+    a, b = e.names(1, 2)
+    x = e.variable()
+    e.learn(e.app(7, a))
+    e.make(e.app(7, x))
+    e.learn(e.app(6, x))
+    e.make(e.app(6, b if other else a))
+
+
 def unreached(e, wanted):
     """Variables that no event shows."""
     n = e.name(5)
@@ -260,6 +270,7 @@ def scripts():
     found += [(lambda e, w=w, l=l: promised(e, l, w), "yes" if l else "no") for w in ("bare", "pair", "application", "seal", "later") for l in (True, False)]
     found += [(lambda e, w=w, t=t: opened_late(e, w + t), "no" if w == "other" or t == ",unknown" else "yes")
               for w in ("variable", "pair", "application", "seal", "other") for t in ("", ",known", ",unknown")]
+    found += yes_no(told_twice, (False, "yes"), (True, "no"))
     return [(exchange(steps), reply) for steps, reply in found]
 
 

@@ -8,3 +8,4 @@ pub mod SolvedLaws
 pub mod SettleLaws
 pub mod PeelLaws
 pub mod UpwardLaws
+pub mod ClashLaws

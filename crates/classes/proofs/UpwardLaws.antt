@@ -19,14 +19,17 @@ use Rattle.theory.specs.Classes.{Alike, atoms, Closed, Sat}
 use Rattle.theory.proofs.Classes.{alike-parts, alike-sym, alike-solid, alike-look, reads-ranked}
 use Rattle.theory.proofs.Level.{class-reads}
 use Rattle.theory.proofs.Rows.{rows-beyond}
-use Rattle.classes.specs.Kept.{Kept, Finite, Solved, Joined}
-use Rattle.classes.specs.Twins.{Twin}
+use Rattle.classes.specs.Kept.{Finite, Solved, Joined}
 use Rattle.classes.specs.declared.upward.Lifted.{Lifted}
 use Rattle.classes.specs.Settle.{Moved}
-use Rattle.classes.specs.Upward.{Met, Meets, Lifts}
+use Rattle.classes.specs.Upward.{Fellow, Met, Meets, Lifts}
 use Rattle.classes.proofs.TwinLaws.{alike-trans, alike-self}
 use Rattle.classes.proofs.SolvedLaws.{solved-met}
 use Rattle.classes.proofs.SettleLaws.{moved-none, moved-join, moved-more, moved-stay}
+
+-- Of cells that are alike, those that stand for their classes are alike.
+reps-alike : (T : Table) (cls : ℕ → ℕ) → Closed T cls → (c d : ℕ) → Alike cls (T c) (T d) → Alike cls (T (cls c)) (T (cls d))
+reps-alike T cls closed c d h = alike-trans (alike-sym (closed c (alike-solid (alike-sym h)))) (alike-trans h (closed d (alike-solid h)))
 
 -- ---- one join of cells that are alike
 
@@ -69,7 +72,7 @@ module _ (n : ℕ) (T : Table) (rep out : List ℕ) (a b : ℕ) (w : Solved n T 
   near c d sc sd h = alike-trans (w .closed c sc) (alike-trans h (alike-sym (w .closed d sd)))
 
   both : Alike cls (T (cls a)) (T (cls b))
-  both = alike-trans (alike-sym (w .closed a (alike-solid (alike-sym same)))) (alike-trans same (w .closed b (alike-solid same)))
+  both = reps-alike T cls (w .closed) a b same
 
   at : (x y : ℕ) → (T x ≡ VA → ⊥) → put x ≡ put y → Alike cls (T x) (T y)
   at x y s e = elim (eq? x (cls b)) [
@@ -101,16 +104,22 @@ module _ (n : ℕ) (T : Table) (rep out : List ℕ) (a b : ℕ) (w : Solved n T 
   alike-join : (classAt rep a ≡ classAt rep b → ⊥) → Moved T (Solved n T) rep out true
   alike-join ne = moved-join j (record { kept = j .kept; closed = closed; finite = finite }) ne equal
 
--- The cell c and its lowest twin t: of two classes and joined, or of one.
-module _ (n : ℕ) (T : Table) (rep : List ℕ) (w : Solved n T rep) (c t : ℕ) (tw : Twin T (classAt rep) c t) where
-  pub twin-alike : (classAt rep t ≡ classAt rep c → ⊥) → Alike (classAt rep) (T t) (T c)
-  twin-alike ne = alike-sym (tw .hit (elim (eq? t c) [ inl e ↦ absurd (ne (ap (classAt rep) e)) | inr ne ↦ omega (arith, tw .low) ]))
+-- The cell c is left, or joined with its fellow t.
+module _ {n : ℕ} {T : Table} {rep : List ℕ} {c : ℕ} (w : Solved n T rep) where
+  pub meets-stay : Met T (classAt rep) c → Meets n T rep c (record { changed = false; rep = rep })
+  meets-stay met = record { moved = moved-none rep w; met = λ _. met }
 
-  pub meets-join : (out : List ℕ) → (classAt rep t ≡ classAt rep c → ⊥) → Joined n T rep t c out → Meets n T rep c (record { changed = true; rep = out })
-  meets-join out ne j = record { moved = alike-join n T rep out t c w (twin-alike ne) j ne; met = λ e. absurd (true≢false e) }
+  pub meets-none : {t : ℕ} → Fellow T (classAt rep) c t → t ≡ c → Meets n T rep c (record { changed = false; rep = rep })
+  meets-none f e = meets-stay (λ _ d h. f .miss d (omega arith))
 
-  pub meets-same : classAt rep t ≡ classAt rep c → Meets n T rep c (record { changed = false; rep = rep })
-  meets-same e = record { moved = moved-none rep w; met = λ _. (t, tw, e) }
+  pub meets-join : {t : ℕ} {out : List ℕ} → Fellow T (classAt rep) c t → classAt rep c ≡ c → (t ≡ c → ⊥) → Joined n T rep t c out →
+      Meets n T rep c (record { changed = true; rep = out })
+  meets-join {t} {out} f own ne j =
+      let h : t < c = omega (arith, f .low) in
+      record {
+        moved = alike-join n T rep out t c w (alike-sym (f .hit h)) j (λ e. ne (sym (f .stands h) ∙ e ∙ own));
+        met = λ e. absurd (true≢false e);
+      }
 
 -- ---- sweeps
 
@@ -134,7 +143,7 @@ module _ {n : ℕ} {T : Table} {rep : List ℕ} where
 name-alike : {f : ℕ → ℕ} {p : ℕ} {k : Cell} → Alike f (AT p) k → k ≡ AT p
 name-alike atoms = refl
 
-module _ {n : ℕ} {kinds firsts seconds rep : List ℕ} (w : Rows n kinds firsts seconds) (k : Kept n (tableAt kinds firsts seconds) rep)
+module _ {n : ℕ} {kinds firsts seconds rep : List ℕ} (w : Rows n kinds firsts seconds) (v : Solved n (tableAt kinds firsts seconds) rep)
     (met : (c : ℕ) → c < n → Met (tableAt kinds firsts seconds) (classAt rep) c) where
   abbrev S : Table
   S = tableAt kinds firsts seconds
@@ -142,25 +151,20 @@ module _ {n : ℕ} {kinds firsts seconds rep : List ℕ} (w : Rows n kinds first
   abbrev mine : ℕ → ℕ
   mine = classAt rep
 
-  lowest : (c t : ℕ) → (S c ≡ VA → ⊥) → Twin S mine c t → Alike mine (S c) (S t)
-  lowest c t s tw = elim (eq? t c) [ inl e ↦ subst (λ z. Alike mine (S c) (S z)) (sym e) (alike-self (S c) s) | inr ne ↦ tw .hit (omega (arith, tw .low)) ]
+  -- Of two cells that stand for their classes and are alike neither is the higher one.
+  up-reps : (a b : ℕ) → a < n → b < n → mine a ≡ a → mine b ≡ b → Alike mine (S a) (S b) → a ≡ b
+  up-reps a b ha hb ea eb h = elim (decLt a b) [
+    | yes l ↦ absurd (met b hb eb a l ea (alike-sym h))
+    | no m ↦ elim (decLt b a) [ yes l ↦ absurd (met a ha ea b l eb h) | no o ↦ omega arith ]
+  ]
 
   up-cells : (c d : ℕ) → c < n → d < n → Alike mine (S c) (S d) → mine c ≡ mine d
   up-cells c d hc hd h =
-      let (t, tw, e) = met c hc in
-      let (u, uw, i) = met d hd in
-      let ct = lowest c t (alike-solid (alike-sym h)) tw in
-      let du = lowest d u (alike-solid h) uw in
-      elim (decLt t u) [
-        | yes l ↦ absurd (uw .miss t l (alike-trans (alike-sym h) ct))
-        | no a ↦ elim (decLt u t) [
-          | yes l ↦ absurd (tw .miss u l (alike-trans h du))
-          | no b ↦ (let z : t ≡ u = omega arith in sym e ∙ ap mine z ∙ i)
-        ]
-      ]
+      let k = v .kept in
+      up-reps (mine c) (mine d) (k .inside c hc) (k .inside d hd) (k .reps .idem c) (k .reps .idem d) (reps-alike S mine (v .closed) c d h)
 
   up-name : (c d : ℕ) → S c ≡ AT 0 → Alike mine (S c) (S d) → mine c ≡ mine d
-  up-name c d e h = k .names c d 0 e (name-alike (subst (λ z. Alike mine z (S d)) e h))
+  up-name c d e h = v .kept .names c d 0 e (name-alike (subst (λ z. Alike mine z (S d)) e h))
 
   pub met-up : (c d : ℕ) → Alike (classAt rep) (S c) (S d) → classAt rep c ≡ classAt rep d
   met-up c d h = elim (decLt c n) [

@@ -1,6 +1,6 @@
 -- The class array, a row of 129 bytes: the entry of a cell is the cell that stands for its class.
 -- Short: a row of a table; Kept: what every class array keeps; count, classCount: how many classes there are; Finite: the classes come round nowhere;
--- Unmet: no messages satisfy them; Solved: what holds between two questions; Stands, Relabelled, Joined: one join.
+-- Unmet: no messages satisfy them; Never: none that do make two cells equal; Solved: what holds between two questions; Stands, Relabelled, Joined: one join.
 use mathlib.Core.Path.{_≡_}
 use mathlib.Core.Bool.{Bool, cond}
 use mathlib.Core.List.{List}
@@ -41,6 +41,10 @@ Finite T rep = (rank : ℕ → ℕ) × Ranked (λ c. T (rep c)) rank
 -- No messages of the cells satisfy the classes.
 abbrev pub Unmet : Table → (ℕ → ℕ) → Type 0
 Unmet T rep = (m : ℕ → Message) → Reads T m m → Sat rep m → ⊥
+
+-- No messages of the cells that satisfy the classes make c and d equal.
+abbrev pub Never : Table → (ℕ → ℕ) → ℕ → ℕ → Type 0
+Never T rep c d = (m : ℕ → Message) → Reads T m m → Sat rep m → m c ≡ m d → ⊥
 
 -- A class array in which nothing is left to join, and which comes round nowhere.
 pub record Solved (n : ℕ) (T : Table) (rep : List ℕ) : Type 0 where

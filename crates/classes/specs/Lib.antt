@@ -4,3 +4,4 @@ pub mod Twins
 pub mod Settle
 pub mod Peel
 pub mod Upward
+pub mod Clash

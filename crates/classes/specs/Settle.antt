@@ -14,7 +14,7 @@ use Rattle.classes.specs.declared.Diff.the-variants.{Same, Clash, Parts}
 use Rattle.classes.specs.declared.Step.{Step}
 use Rattle.classes.specs.declared.Swept.{Swept}
 use Rattle.classes.specs.declared.Settled.{Settled}
-use Rattle.classes.specs.Kept.{Kept, classCount, Unmet, Solved}
+use Rattle.classes.specs.Kept.{Kept, classCount, Unmet, Never, Solved}
 
 -- The cell c, if it is no variable, is alike the one that stands for its class.
 abbrev pub Shut : Table → (ℕ → ℕ) → ℕ → Type 0
@@ -64,7 +64,7 @@ pub record Settles (n : ℕ) (T : Table) (rep : List ℕ) (r : Settled) : Type 0
 
 -- Solved classes that exactly those messages satisfy that satisfy rep and make a and b equal; or there are none.
 pub record Unifies (n : ℕ) (T : Table) (rep : List ℕ) (a b : ℕ) (r : Settled) : Type 0 where
-  pub no : r .ok ≡ false → (m : ℕ → Message) → Reads T m m → Sat (classAt rep) m → m a ≡ m b → ⊥
+  pub no : r .ok ≡ false → Never T (classAt rep) a b
   pub solved : r .ok ≡ true → Solved n T (r .rep)
   pub sat : r .ok ≡ true → (m : ℕ → Message) → Reads T m m → (Sat (classAt rep) m × (m a ≡ m b)) ↔ Sat (classAt (r .rep)) m
   pub most : r .ok ≡ true → classCount (r .rep) ≤ classCount rep

@@ -1,5 +1,5 @@
 -- Closing the classes upwards: cells that are alike, by the classes of their parts, are put into one class.
--- Met: a cell is of one class with the lowest that is alike; Meets, Lifts, Raised: the functions.
+-- Fellow: the lowest cell that stands for its class and is alike; Met: there is none below; Meets, Lifts, Raised: the functions.
 use mathlib.Core.Path.{_≡_}
 use mathlib.Core.Bool.{Bool, false}
 use mathlib.Core.List.{List}
@@ -11,12 +11,18 @@ use Rattle.theory.specs.Cells.{classAt}
 use Rattle.theory.specs.Classes.{Alike, Sat}
 use Rattle.classes.specs.declared.upward.Lifted.{Lifted}
 use Rattle.classes.specs.Kept.{classCount, Solved}
-use Rattle.classes.specs.Twins.{Twin}
 use Rattle.classes.specs.Settle.{Moved}
 
--- The cell c is of one class with the lowest cell that is alike.
+-- The cell r is the lowest below c that stands for its class and is alike c; or it is c, and there is none.
+pub record Fellow (T : Table) (cls : ℕ → ℕ) (c r : ℕ) : Type 0 where
+  pub low : r ≤ c
+  pub stands : r < c → cls r ≡ r
+  pub hit : r < c → Alike cls (T c) (T r)
+  pub miss : (d : ℕ) → d < r → cls d ≡ d → Alike cls (T c) (T d) → ⊥
+
+-- If c stands for its class, no cell below it that stands for its own is alike.
 abbrev pub Met : Table → (ℕ → ℕ) → ℕ → Type 0
-Met T cls c = (t : ℕ) × Twin T cls c t × (cls t ≡ cls c)
+Met T cls c = cls c ≡ c → (d : ℕ) → d < c → cls d ≡ d → Alike cls (T c) (T d) → ⊥
 
 -- One cell.
 pub record Meets (n : ℕ) (T : Table) (rep : List ℕ) (c : ℕ) (r : Lifted) : Type 0 where

@@ -1,4 +1,5 @@
 // Classes of cells that are to show equal messages: each cell's representative in an array of 129 bytes.
+pub mod clash;
 pub mod upward;
 
 ghost use mathlib.Core.Path.{_≡_};

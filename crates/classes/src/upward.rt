@@ -1,12 +1,13 @@
 // Closing upwards: cells whose parts are of the same classes are put into one class, until none are left.
+use super::Diff;
 use super::class_of;
+use super::compare;
 use super::join;
-use super::twin;
 ghost use Prim.Native.Nat.{_<_};
 ghost use Rattle.model.specs.Stored.{tableAt};
-ghost use Rattle.theory.specs.Cells.{Rows};
+ghost use Rattle.theory.specs.Cells.{Rows, classAt};
 ghost use Rattle.classes.specs.Kept.{Solved};
-ghost use Rattle.classes.specs.Upward.{Meets, Lifts, Raised};
+ghost use Rattle.classes.specs.Upward.{Fellow, Meets, Lifts, Raised};
 
 // The classes after joins, and whether there were any.
 pub struct Lifted {
@@ -14,8 +15,35 @@ pub struct Lifted {
     pub rep: [u8; 129],
 }
 
-// The cell c in one class with the lowest cell that is alike.
-pub fn meet<'a>(
+// The lowest cell below c that stands for its class and is alike c by the classes of the parts, or c.
+fn fellow<'a>(
+    kind: &'a [u8; 128],
+    first: &'a [u8; 128],
+    second: &'a [u8; 128],
+    n: usize,
+    rep: &'a [u8; 129],
+    c: u8,
+) -> u8
+    requires { ⌜ Rows n (now kind) (now first) (now second) ⌝ }
+    ensures { λ r. ⌜ Fellow (tableAt (now (kind .entry)) (now (first .entry)) (now (second .entry))) (classAt (now (rep .entry))) c r ⌝ }
+{
+    let mut d: u8 = 0;
+    while d < c {
+        if class_of(rep, d) != d {
+            d += 1;
+            continue;
+        }
+        let Diff::Same = compare(kind, first, second, n, rep, c, d) else {
+            d += 1;
+            continue;
+        };
+        return d;
+    }
+    c
+}
+
+// The cell c, if it stands for its class, in one class with the lowest such cell that is alike.
+fn meet<'a>(
     kind: &'a [u8; 128],
     first: &'a [u8; 128],
     second: &'a [u8; 128],
@@ -28,8 +56,14 @@ pub fn meet<'a>(
     requires { ⌜ c < n ⌝ }
     ensures { λ r. ⌜ Meets n (tableAt (now (kind .entry)) (now (first .entry)) (now (second .entry))) rep c r ⌝ }
 {
-    let t = twin(kind, first, second, n, &rep, c);
-    if class_of(&rep, t) == class_of(&rep, c) {
+    if class_of(&rep, c) != c {
+        return Lifted {
+            changed: false,
+            rep: rep,
+        };
+    }
+    let t = fellow(kind, first, second, n, &rep, c);
+    if t == c {
         return Lifted {
             changed: false,
             rep: rep,
@@ -42,8 +76,8 @@ pub fn meet<'a>(
     }
 }
 
-// Each cell with the lowest that is alike, once over the cells.
-pub fn lift<'a>(
+// Each cell that stands for its class with the lowest such cell that is alike, once over the cells.
+fn lift<'a>(
     kind: &'a [u8; 128],
     first: &'a [u8; 128],
     second: &'a [u8; 128],

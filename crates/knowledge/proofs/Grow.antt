@@ -18,7 +18,7 @@ use Rattle.knowledge.specs.Sweeps.{missing, Grown, OwnMarks}
 
 -- ---- one mark
 
-missing-fewer : (m : List ℕ) (j : ℕ) → j < length m → (On m j → ⊥) → missing (set m j 1) < missing m
+pub missing-fewer : (m : List ℕ) (j : ℕ) → j < length m → (On m j → ⊥) → missing (set m j 1) < missing m
 missing-fewer [] j h e = absurd (omega arith)
 missing-fewer (x ∷ xs) zero h e = go (eqb x 1) refl
   where

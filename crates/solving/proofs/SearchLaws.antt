@@ -10,17 +10,16 @@ use native.Mathlib.Decide.{decLt}
 use Rattle.model.specs.Message.{atom}
 use Rattle.model.specs.Case.{MK, Table, Run, WellFormed}
 use Rattle.model.specs.Stored.{tableAt}
-use Rattle.model.proofs.Read.{clash}
 use Rattle.theory.specs.Cells.{Rows, classAt, On}
 use Rattle.theory.specs.Level.{Kin, Mark, built}
 use Rattle.theory.specs.Search.{None, NoneWith}
 use Rattle.theory.proofs.Rows.{rows-formed, rows-var}
-use Rattle.theory.proofs.Step.{search-no, clash-none, none-sym, reply-no}
+use Rattle.theory.proofs.Step.{clash-none, none-sym, reply-no}
 use Rattle.classes.specs.Kept.{Solved}
 use Rattle.classes.specs.Twins.{Start}
 use Rattle.classes.proofs.SolvedLaws.{solved-state, solved-grounds}
 use Rattle.theory.proofs.MarkRows.{on?}
-use Rattle.hopeless.proofs.KinLaws.{kin-sym, kin-below}
+use Rattle.granting.proofs.KinLaws.{kin-sym, kin-below}
 use Rattle.knowledge.proofs.ClassRows.{kept-row}
 use Rattle.solving.specs.Listing.{Listed}
 use Rattle.solving.specs.Pairs.{Mirrored, Pairs, place, ChildOf}
@@ -88,14 +87,13 @@ module _ {n : ℕ} {K F S rep : List ℕ} (w : Rows n K F S) (ev : Run) (s : Sol
   }
 
   pub searched-no : WellFormed T ev → (pl : Choice) (f : Found) → Plans T ev rep pl → pl .ready ≡ false → f .yes ≡ false →
-      ((i j : ℕ) → i < n → j < n → Pairs T rep (pl .want) (pl .bare) i j → NoneWith T ev (classAt rep) i j) → Searched T n ev rep f
+      ((i j : ℕ) → i < n → j < n → Pairs T rep (pl .trial .want) (pl .trial .bare) i j → NoneWith T ev (classAt rep) i j) → Searched T n ev rep f
   searched-no wf pl f p e y all = record {
     solved = λ z. absurd (true≢false (sym z ∙ y));
     ready = λ z. absurd (true≢false (sym z ∙ y));
     none = λ _.
-        let (q, plan) = p .plan e in
-        search-no T ev (classAt rep) q (On (pl .want)) (On (pl .bare)) (rows-formed w) wf (solved-state n T rep s) plan
-        (λ c d ec ed x z k a. tried-pairs T n ev rep (pl .want) (pl .bare) all c d (kin-below w c d k .0) (kin-below w c d k .1) x z k (λ i. a (sym ec ∙ (i ∙ ed))));
+        p .tries e wf
+        (λ c d ec ed x z k a. tried-pairs T n ev rep (pl .trial .want) (pl .trial .bare) all c d (kin-below w c d k .0) (kin-below w c d k .1) x z k (λ i. a (sym ec ∙ (i ∙ ed))));
   }
 
 pub searched-child : (T : Table) (n : ℕ) (ev : Run) (rep next : List ℕ) (f : Found) → Searched T n ev next f → f .yes ≡ true → Searched T n ev rep f
@@ -104,14 +102,6 @@ searched-child T n ev rep next f x y = record { solved = x .solved; ready = x .r
 -- ---- the reply
 
 module _ {n : ℕ} {K F S : List ℕ} (w : Rows n K F S) (ev : Run) where
-  -- The early no.
-  pub solves-none : (rep : List ℕ) (r : Solution) → Start n (tableAt K F S) rep → None (tableAt K F S) ev (classAt rep) → r .yes ≡ false → Solves (tableAt K F S) n ev r
-  solves-none rep r st none e = record {
-    form = λ y. clash (cc);
-    right = λ y. clash (cc);
-    none = λ y ρ. reply-no (tableAt K F S) ev (classAt rep) (w .lower) (st .met) none ρ;
-  }
-
   pub solves : (rep : List ℕ) (f : Found) (r : Solution) → Start n (tableAt K F S) rep → Searched (tableAt K F S) n ev rep f → Listed (tableAt K F S) n (f .rep) (r .list) n → r .yes ≡ f .yes →
       Solves (tableAt K F S) n ev r
   solves rep f r st x l e = record {

@@ -9,8 +9,7 @@ use Rattle.model.specs.Case.{Table, Reads}
 use Rattle.theory.specs.Cells.{classAt, On}
 use Rattle.theory.specs.Classes.{Sat}
 use Rattle.theory.specs.Level.{Kin}
-use Rattle.classes.specs.Kept.{Solved, classCount}
-use Rattle.hopeless.specs.Meets.{Never}
+use Rattle.classes.specs.Kept.{Never, Solved, classCount}
 use Rattle.solving.specs.declared.pairs.Next.{Next}
 use Rattle.solving.specs.declared.pairs.Next.the-variants as next
 use Rattle.solving.specs.declared.search.Child.{Child}
@@ -44,7 +43,7 @@ NextPair T n rep want bare from next.Nothing = (to : ℕ) → NoPair T n rep wan
 
 -- The first pair from the place `from` on that can be made equal, if there is one, with the classes that it gives, and the place after it.
 pub record ChildOf (T : Table) (n : ℕ) (rep want bare : List ℕ) (from : ℕ) (r : Child) : Type 0 where
-  pub none : r .ok ≡ false → (c d : ℕ) → c < n → d < n → from ≤ place c d → Pairs T rep want bare c d → Never T rep c d
+  pub none : r .ok ≡ false → (c d : ℕ) → c < n → d < n → from ≤ place c d → Pairs T rep want bare c d → Never T (classAt rep) c d
   pub solved : r .ok ≡ true → Solved n T (r .rep)
   pub fewer : r .ok ≡ true → classCount (r .rep) < classCount rep
   pub later : r .ok ≡ true → (from < place (r .c) (r .d)) × (r .c < n) × (r .d ≤ n)

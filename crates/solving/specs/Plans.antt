@@ -1,30 +1,91 @@
 -- The choice of what is tried at one step: its plan.
--- Planned, Plans: what a plan says, of the events before a position and of all; Chosen: one more position.
+-- Exact: rows that are the marks at a position; GrantedAt: rows that are granted there; Chosen: what is tried at a position; Tries: that it is enough; Better: the better of two;
+-- Planned, Plans: what a plan says, of the events before a position and of all; StageRows, Staged: what is known before a position; MadeStage, HeardStage, Stepped: one event more.
 use mathlib.Core.Path.{_≡_}
+use mathlib.Core.Logic.{_↔_, _⊎_}
 use mathlib.Core.Bool.{true, false}
 use mathlib.Core.List.{List}
 use mathlib.Core.Option.{some}
 use Prim.Native.Nat.{ℕ, _+_, _<_}
 use lib.ListN.{getD}
-use Rattle.model.specs.Case.{MK, Table, Run}
+use Rattle.model.specs.Case.{MK, LN, Table, Run, Learnt, WellFormed}
 use Rattle.model.specs.Stored.{runAt}
 use Rattle.theory.specs.Cells.{classAt, On}
-use Rattle.theory.specs.Level.{Mark, built}
-use Rattle.theory.specs.Search.{Plan}
-use Rattle.wants.specs.Starts.{Exact}
+use Rattle.theory.specs.Level.{Mark, seen, built}
+use Rattle.theory.specs.Cut.{Enough, Granted}
+use Rattle.knowledge.specs.Knowledge.{Marked, Starts}
+use Rattle.knowledge.specs.Sweeps.{OwnMarks}
+use Rattle.knowledge.specs.declared.Marks.{Marks}
+use Rattle.wants.specs.Starts.{BareTo}
+use Rattle.wants.specs.Sets.{WantedRow}
+use Rattle.granting.specs.Meets.{May}
+use Rattle.granting.specs.Line.{LineRow}
+use Rattle.solving.specs.declared.plan.Trial.{Trial}
 use Rattle.solving.specs.declared.plan.Choice.{Choice}
+use Rattle.solving.specs.declared.plan.Stage.{Stage}
 
--- Ready: what is to be made before position `upto` is built there. Else the plan has the sets of a position where it is not.
+-- The rows are the marks of what is seen and of what is built at position p.
+pub record Exact (T : Table) (rep : List ℕ) (ev : Run) (p : ℕ) (seens builts : List ℕ) : Type 0 where
+  pub seen : (c : ℕ) → On seens (classAt rep c) ↔ Mark T (classAt rep) ev p seen c
+  pub built : (c : ℕ) → On builts (classAt rep c) ↔ Mark T (classAt rep) ev p built c
+  pub seen-marked : Marked rep seens
+  pub built-marked : Marked rep builts
+
+-- The rows are granted at position p, with rows of what is needed, of what holds a free class, and of what is over one.
+pub record GrantedAt (T : Table) (rep : List ℕ) (ev : Run) (p : ℕ) (seens builts : List ℕ) : Type 0 where
+  pub need : List ℕ
+  pub held : List ℕ
+  pub over : List ℕ
+  pub granted : Granted T (classAt rep) ev p (May T rep) (On seens) (On builts) (On need) (On held) (On over)
+
+-- What is tried at the MK at p: a way down through what is not built by the marks g that are granted, or all that may help by the marks o of what is seen and built.
+pub data Chosen (T : Table) (n : ℕ) (rep : List ℕ) (o g : Marks) (kinds cells : List ℕ) (p : ℕ) (x : Trial) : Type 0 where
+  line : LineRow T rep (g .built) (classAt rep (getD cells p 0)) (x .want) → BareTo T rep (g .seen) (g .built) (x .bare) n → Chosen T n rep o g kinds cells p x
+  all : WantedRow T rep (o .seen) (o .built) kinds cells p (x .want) → BareTo T rep (o .seen) (o .built) (x .bare) n → Chosen T n rep o g kinds cells p x
+
+-- If no pair of what is tried can be made equal by right values, there are none.
+abbrev pub Tries : Table → Run → List ℕ → Trial → Type 0
+Tries T ev rep x = WellFormed T ev → Enough T ev (classAt rep) (On (x .want)) (On (x .bare))
+
+-- The plan r is the plan `best`, which is not ready, or it tries x.
+pub data Better (best : Choice) (x : Trial) (r : Choice) : Type 0 where
+  old : best .ready ≡ false → r ≡ best → Better best x r
+  new : r .ready ≡ false → r .trial ≡ x → Better best x r
+
+-- Ready: what is to be made before position `upto` is built there. Else what the plan tries is enough.
 pub record Planned (T : Table) (ev : Run) (rep : List ℕ) (upto : ℕ) (pl : Choice) : Type 0 where
   pub ready : pl .ready ≡ true → (q t : ℕ) → q < upto → ev q ≡ some (MK t) → Mark T (classAt rep) ev q built t
-  pub plan : pl .ready ≡ false → (p : ℕ) × Plan T ev (classAt rep) p (On (pl .want)) (On (pl .bare))
+  pub tries : pl .ready ≡ false → Tries T ev rep (pl .trial)
 
 -- The same for all positions.
 pub record Plans (T : Table) (ev : Run) (rep : List ℕ) (pl : Choice) : Type 0 where
   pub ready : pl .ready ≡ true → (q t : ℕ) → ev q ≡ some (MK t) → Mark T (classAt rep) ev q built t
-  pub plan : pl .ready ≡ false → (p : ℕ) × Plan T ev (classAt rep) p (On (pl .want)) (On (pl .bare))
+  pub tries : pl .ready ≡ false → Tries T ev rep (pl .trial)
 
--- If the rows are the marks at position p, and what is to be made there is the cell of the row, then r is a plan one position further than `best`.
-abbrev pub Chosen : Table → List ℕ → List ℕ → List ℕ → List ℕ → List ℕ → ℕ → Choice → Choice → Type 0
-Chosen T rep seens builts kinds cells p best r = (count : ℕ) → Exact T rep (runAt count kinds cells) p seens builts →
-    runAt count kinds cells p ≡ some (MK (getD cells p 0)) → Planned T (runAt count kinds cells) rep p best → Planned T (runAt count kinds cells) rep (p + 1) r
+-- The rows of a stage are rows of marks.
+pub record StageRows (rep : List ℕ) (st : Stage) : Type 0 where
+  pub known : Marked rep (st .known)
+  pub seen : Marked rep (st .seen)
+  pub built : Marked rep (st .built)
+
+-- What is known before position p: marks to start from; marks that hold what is learnt, and his own name; a plan of the positions before.
+pub record Staged (T : Table) (n : ℕ) (ev : Run) (rep : List ℕ) (p : ℕ) (st : Stage) : Type 0 where
+  pub starts : Starts T rep ev p (st .known)
+  pub heard : (c : ℕ) → Learnt ev p c → On (st .seen) (classAt rep c)
+  pub zero : List ℕ
+  pub own : OwnMarks n rep zero
+  pub kept : (c : ℕ) → On zero c → On (st .built) c
+  pub planned : Planned T ev rep p (st .best)
+
+-- An MK takes the stage st before p to the stage r after it.
+abbrev pub MadeStage : Table → ℕ → List ℕ → List ℕ → List ℕ → ℕ → Stage → Stage → Type 0
+MadeStage T n rep kinds cells p st r = (count : ℕ) → runAt count kinds cells p ≡ some (MK (getD cells p 0)) → Staged T n (runAt count kinds cells) rep p st →
+    Staged T n (runAt count kinds cells) rep (p + 1) r
+
+-- An LN of the cell x takes st to r.
+abbrev pub HeardStage : List ℕ → ℕ → Stage → Stage → Type 0
+HeardStage rep x st r = (T : Table) (n : ℕ) (ev : Run) (p : ℕ) → ev p ≡ some (LN x) → Staged T n ev rep p st → Staged T n ev rep (p + 1) r
+
+-- The event at p takes st to r.
+abbrev pub Stepped : Table → ℕ → List ℕ → List ℕ → List ℕ → ℕ → Stage → Stage → Type 0
+Stepped T n rep kinds cells p st r = (count : ℕ) → p < count → Staged T n (runAt count kinds cells) rep p st → Staged T n (runAt count kinds cells) rep (p + 1) r

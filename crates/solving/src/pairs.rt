@@ -1,5 +1,5 @@
 // Pairs of cells that may have to be made equal.
-use hopeless::meets::kin;
+use granting::meets::kin;
 use knowledge::class_of;
 ghost use mathlib.Core.List.{List};
 ghost use Prim.Native.Nat.{ℕ, _≤_, _<_};

@@ -1,31 +1,54 @@
 // The choice of what is tried at one step: a position where what is to be made is not built, and the cells that may have to be made equal there.
 use super::pairs::pairing;
-use classes::unify;
+use classes::clash::clash;
+use granting::grants::granted;
+use granting::line::line;
+use knowledge::Marks;
 use knowledge::cell;
 use knowledge::class_of;
 use knowledge::learn;
 use knowledge::open_known;
+use knowledge::own_marks;
 use wants::sets::wanted;
 use wants::starts::bares;
 ghost use mathlib.Core.Path.{_≡_};
 ghost use mathlib.Core.Bool.{true, false};
-ghost use Prim.Native.Nat.{_<_, _+_};
+ghost use Prim.Native.Nat.{_≤_, _<_, _+_};
 ghost use Rattle.model.specs.Stored.{tableAt, runAt};
-ghost use Rattle.theory.specs.Cells.{Rows, EventRows};
-ghost use Rattle.classes.specs.Kept.{Kept};
-ghost use Rattle.knowledge.specs.Knowledge.{Marked};
-ghost use Rattle.solving.specs.Plans.{Plans, Chosen};
+ghost use Rattle.theory.specs.Cells.{Rows, EventRows, classAt, On};
+ghost use Rattle.classes.specs.Kept.{Kept, Solved};
+ghost use Rattle.knowledge.specs.Knowledge.{ClassRow, Marked};
+ghost use Rattle.knowledge.specs.Sweeps.{Decides};
+ghost use Rattle.wants.specs.Starts.{BareTo};
+ghost use Rattle.wants.specs.Sets.{WantedRow};
+ghost use Rattle.granting.specs.Line.{Whole, Lacking, LineRow};
+ghost use Rattle.solving.specs.Plans.{Chosen, Better, StageRows, MadeStage, HeardStage, Stepped, Plans};
 
-// What is to be tried: if ready, nothing. The number of pairs that can be made equal is a guide only.
-pub struct Choice {
-    pub ready: bool,
-    pub pairs: usize,
+// Wanted and bare cells, of which pairs are to be tried. How many pairs are live is a guide only.
+pub struct Trial {
+    pub pairs: u8,
     pub want: [u8; 129],
     pub bare: [u8; 129],
 }
 
-// Can the pair of c and d be made equal?
-pub fn live_at<'a>(
+// The plan of a step: if ready, nothing is to be tried. The position and the load are guides only.
+pub struct Choice {
+    pub ready: bool,
+    pub at: usize,
+    pub load: usize,
+    pub trial: Trial,
+}
+
+// What is known before a position: the marks of what is seen, those of what is granted, and the best plan so far.
+pub struct Stage {
+    pub known: [u8; 129],
+    pub seen: [u8; 129],
+    pub built: [u8; 129],
+    pub best: Choice,
+}
+
+// A guide: are c and d a pair that does not clash at once?
+fn live_at<'a>(
     kind: &'a [u8; 128],
     first: &'a [u8; 128],
     second: &'a [u8; 128],
@@ -44,12 +67,11 @@ pub fn live_at<'a>(
     if !pairing(kind, first, rep, want, bare, c, d) {
         return false;
     }
-    let u = unify(kind, first, second, n, *rep, c as u8, d as u8);
-    u.ok
+    !clash(kind, first, second, n, rep, c as u8, d as u8, 3)
 }
 
-// The number of such pairs in the row of c, added to `before`, up to `cap`.
-pub fn live_row<'a>(
+// A guide: the number of such pairs in the row of c, added to `before`, up to 254.
+fn live_row<'a>(
     kind: &'a [u8; 128],
     first: &'a [u8; 128],
     second: &'a [u8; 128],
@@ -58,9 +80,8 @@ pub fn live_row<'a>(
     want: &'a [u8; 129],
     bare: &'a [u8; 129],
     c: usize,
-    before: usize,
-    cap: usize,
-) -> usize
+    before: u8,
+) -> u8
     requires { ⌜ Rows n (now kind) (now first) (now second) ⌝ }
     requires { ⌜ Kept n (tableAt (now kind) (now first) (now second)) (now rep) ⌝ }
     requires { ⌜ c < n ⌝ }
@@ -68,7 +89,7 @@ pub fn live_row<'a>(
     let mut k = before;
     let mut d = 0;
     while d < n {
-        if cap <= k {
+        if 254 <= k {
             return k;
         }
         if live_at(kind, first, second, n, rep, want, bare, c, d) {
@@ -79,8 +100,8 @@ pub fn live_row<'a>(
     k
 }
 
-// The number of such pairs, up to `cap`.
-pub fn live<'a>(
+// A guide: the number of such pairs, up to 254.
+fn live<'a>(
     kind: &'a [u8; 128],
     first: &'a [u8; 128],
     second: &'a [u8; 128],
@@ -88,8 +109,7 @@ pub fn live<'a>(
     rep: &'a [u8; 129],
     want: &'a [u8; 129],
     bare: &'a [u8; 129],
-    cap: usize,
-) -> usize
+) -> u8
     requires { ⌜ Rows n (now kind) (now first) (now second) ⌝ }
     requires { ⌜ Kept n (tableAt (now kind) (now first) (now second)) (now rep) ⌝ }
 {
@@ -97,15 +117,43 @@ pub fn live<'a>(
     let mut c = 0;
     while c < n {
         if want[c] == 1 {
-            k = live_row(kind, first, second, n, rep, want, bare, c, k, cap);
+            k = live_row(kind, first, second, n, rep, want, bare, c, k);
         }
         c += 1;
     }
     k
 }
 
-// The better of the plan `best` and the one at the MK at p.
-pub fn choose<'a>(
+// A way down from t, which is not built by what is granted, and the cells that are bare by it.
+fn by_line<'a>(
+    kind: &'a [u8; 128],
+    first: &'a [u8; 128],
+    second: &'a [u8; 128],
+    n: usize,
+    rep: &'a [u8; 129],
+    seen: &'a [u8; 129],
+    built: &'a [u8; 129],
+    t: usize,
+) -> Trial
+    requires { ⌜ Rows n (now kind) (now first) (now second) ⌝ }
+    requires { ⌜ Kept n (tableAt (now kind) (now first) (now second)) (now rep) ⌝ }
+    requires { ⌜ Whole (tableAt (now kind) (now first) (now second)) (now rep) (now built) ⌝ }
+    requires { ⌜ Lacking n (now rep) (now built) t ⌝ }
+    ensures want { λ r. ⌜ LineRow (tableAt (now (kind .entry)) (now (first .entry)) (now (second .entry))) (now (rep .entry)) (now (built .entry)) t (r .want) ⌝ }
+    ensures bare { λ r. ⌜ BareTo (tableAt (now (kind .entry)) (now (first .entry)) (now (second .entry))) (now (rep .entry)) (now (seen .entry)) (now (built .entry)) (r .bare) n ⌝ }
+{
+    let bare = bares(kind, first, second, n, rep, seen, built);
+    let l = line(kind, first, second, n, rep, built, &bare, t);
+    let want = l.cells;
+    Trial {
+        pairs: l.pairs,
+        want: want,
+        bare: bare,
+    }
+}
+
+// All cells that may help at the MK at p, and the bare ones.
+fn by_all<'a>(
     kind: &'a [u8; 128],
     first: &'a [u8; 128],
     second: &'a [u8; 128],
@@ -116,51 +164,207 @@ pub fn choose<'a>(
     ekind: &'a [u8; 128],
     ecell: &'a [u8; 128],
     p: usize,
-    best: Choice,
-) -> Choice
+) -> Trial
     requires { ⌜ Rows n (now kind) (now first) (now second) ⌝ }
     requires { ⌜ Kept n (tableAt (now kind) (now first) (now second)) (now rep) ⌝ }
     requires { ⌜ Marked (now rep) (now seen) ⌝ }
+    requires { ⌜ Marked (now rep) (now built) ⌝ }
     requires { ⌜ EventRows n (now ecell) (p + 1) ⌝ }
-    ensures { λ r. ⌜ Chosen (tableAt (now (kind .entry)) (now (first .entry)) (now (second .entry))) (now (rep .entry)) (now (seen .entry)) (now (built .entry)) (now (ekind .entry)) (now (ecell .entry)) p best r ⌝ }
+    ensures want { λ r. ⌜ WantedRow (tableAt (now (kind .entry)) (now (first .entry)) (now (second .entry))) (now (rep .entry)) (now (seen .entry)) (now (built .entry)) (now (ekind .entry)) (now (ecell .entry)) p (r .want) ⌝ }
+    ensures bare { λ r. ⌜ BareTo (tableAt (now (kind .entry)) (now (first .entry)) (now (second .entry))) (now (rep .entry)) (now (seen .entry)) (now (built .entry)) (r .bare) n ⌝ }
 {
-    let t = class_of(rep, cell(ecell[p]));
-    if built[t] == 1 {
-        return best;
-    }
     let want = wanted(kind, first, second, n, rep, seen, built, ekind, ecell, p);
     let bare = bares(kind, first, second, n, rep, seen, built);
-    let pairs = live(kind, first, second, n, rep, &want, &bare, best.pairs);
-    if best.ready {
-        return Choice {
-            ready: false,
-            pairs: pairs,
-            want: want,
-            bare: bare,
-        };
+    let k = live(kind, first, second, n, rep, &want, &bare);
+    Trial {
+        pairs: k,
+        want: want,
+        bare: bare,
     }
-    if pairs < best.pairs {
-        return Choice {
-            ready: false,
-            pairs: pairs,
-            want: want,
-            bare: bare,
-        };
+}
+
+// What is tried at the MK at p, by the marks o of what is seen and built and the marks g of what is granted.
+fn choose<'a>(
+    kind: &'a [u8; 128],
+    first: &'a [u8; 128],
+    second: &'a [u8; 128],
+    n: usize,
+    rep: &'a [u8; 129],
+    o: Marks,
+    g: Marks,
+    ekind: &'a [u8; 128],
+    ecell: &'a [u8; 128],
+    p: usize,
+) -> Trial
+    requires { ⌜ Rows n (now kind) (now first) (now second) ⌝ }
+    requires { ⌜ Kept n (tableAt (now kind) (now first) (now second)) (now rep) ⌝ }
+    requires { ⌜ Marked (now rep) (o .seen) ⌝ }
+    requires { ⌜ Marked (now rep) (o .built) ⌝ }
+    requires { ⌜ Whole (tableAt (now kind) (now first) (now second)) (now rep) (g .built) ⌝ }
+    requires { ⌜ EventRows n (now ecell) (p + 1) ⌝ }
+    ensures { λ r. ⌜ Chosen (tableAt (now (kind .entry)) (now (first .entry)) (now (second .entry))) n (now (rep .entry)) o g (now (ekind .entry)) (now (ecell .entry)) p r ⌝ }
+{
+    let t = class_of(rep, cell(ecell[p]));
+    if g.built[t] != 1 {
+        return by_line(kind, first, second, n, rep, &g.seen, &g.built, t);
+    }
+    by_all(
+        kind,
+        first,
+        second,
+        n,
+        rep,
+        &o.seen,
+        &o.built,
+        ekind,
+        ecell,
+        p,
+    )
+}
+
+// A guide: how much there is to try, by the number of pairs and the number of dead ends that the position had.
+fn load_of(pairs: u8, dead: u16) -> usize {
+    pairs as usize * 4096 / (dead as usize + 1)
+}
+
+// The better of the plan `best` and what is tried at p.
+fn better(best: Choice, trial: Trial, p: usize, dead: u16) -> Choice
+    ensures { λ r. ⌜ Better best trial r ⌝ }
+{
+    let load = load_of(trial.pairs, dead);
+    let new = Choice {
+        ready: false,
+        at: p,
+        load: load,
+        trial: trial,
+    };
+    if best.ready {
+        return new;
+    }
+    if load < best.load {
+        return new;
     }
     best
 }
 
-// Is a plan with so many pairs good enough to look no further?
-pub fn enough(ready: bool, pairs: usize) -> bool
-    ensures { λ r. ⌜ (r ≡ true → ready ≡ false) ⌝ }
+// Is the class of x marked?
+fn has<'a>(n: usize, rep: &'a [u8; 129], marks: &'a [u8; 129], x: u8) -> bool
+    requires { ⌜ ClassRow n (now rep) ⌝ }
+    requires { ⌜ x < n ⌝ }
+    requires { ⌜ n ≤ 128 ⌝ }
+    ensures { λ r. ⌜ Decides r (On (now (marks .entry)) (classAt (now (rep .entry)) x)) ⌝ }
 {
-    if ready {
-        return false;
-    }
-    pairs <= 1
+    let t = class_of(rep, cell(x));
+    marks[t] == 1
 }
 
-// The plan of a step: ready if everything that is to be made is built.
+// The stage after the MK at p.
+fn make<'a>(
+    kind: &'a [u8; 128],
+    first: &'a [u8; 128],
+    second: &'a [u8; 128],
+    n: usize,
+    rep: &'a [u8; 129],
+    ekind: &'a [u8; 128],
+    ecell: &'a [u8; 128],
+    p: usize,
+    dead: u16,
+    st: Stage,
+) -> Stage
+    requires { ⌜ Rows n (now kind) (now first) (now second) ⌝ }
+    requires { ⌜ Solved n (tableAt (now kind) (now first) (now second)) (now rep) ⌝ }
+    requires { ⌜ EventRows n (now ecell) (p + 1) ⌝ }
+    requires { ⌜ StageRows (now rep) st ⌝ }
+    ensures rows { λ r. ⌜ StageRows (now (rep .entry)) r ⌝ }
+    ensures made { λ r. ⌜ MadeStage (tableAt (now (kind .entry)) (now (first .entry)) (now (second .entry))) n (now (rep .entry)) (now (ekind .entry)) (now (ecell .entry)) p st r ⌝ }
+{
+    let known = st.known;
+    let seen = st.seen;
+    let built = st.built;
+    let best = st.best;
+    let o = open_known(kind, first, second, n, rep, known);
+    let more = o.seen;
+    if has(n, rep, &o.built, ecell[p]) {
+        return Stage {
+            known: more,
+            seen: seen,
+            built: built,
+            best: best,
+        };
+    }
+    let g = granted(kind, first, second, n, rep, ekind, ecell, p, seen, built);
+    let x = choose(kind, first, second, n, rep, o, g, ekind, ecell, p);
+    let b = better(best, x, p, dead);
+    let s = g.seen;
+    let t = g.built;
+    Stage {
+        known: more,
+        seen: s,
+        built: t,
+        best: b,
+    }
+}
+
+// The stage after an LN of the cell x.
+fn hear<'a>(n: usize, rep: &'a [u8; 129], x: u8, st: Stage) -> Stage
+    requires { ⌜ ClassRow n (now rep) ⌝ }
+    requires { ⌜ StageRows (now rep) st ⌝ }
+    requires { ⌜ x < n ⌝ }
+    requires { ⌜ n ≤ 128 ⌝ }
+    ensures rows { λ r. ⌜ StageRows (now (rep .entry)) r ⌝ }
+    ensures heard { λ r. ⌜ HeardStage (now (rep .entry)) x st r ⌝ }
+{
+    let known = st.known;
+    let seen = st.seen;
+    let built = st.built;
+    let best = st.best;
+    let k = learn(n, rep, known, cell(x));
+    let s = learn(n, rep, seen, cell(x));
+    Stage {
+        known: k,
+        seen: s,
+        built: built,
+        best: best,
+    }
+}
+
+// The stage after the event at p.
+fn step<'a>(
+    kind: &'a [u8; 128],
+    first: &'a [u8; 128],
+    second: &'a [u8; 128],
+    n: usize,
+    rep: &'a [u8; 129],
+    ekind: &'a [u8; 128],
+    ecell: &'a [u8; 128],
+    p: usize,
+    dead: u16,
+    st: Stage,
+) -> Stage
+    requires { ⌜ Rows n (now kind) (now first) (now second) ⌝ }
+    requires { ⌜ Solved n (tableAt (now kind) (now first) (now second)) (now rep) ⌝ }
+    requires { ⌜ EventRows n (now ecell) (p + 1) ⌝ }
+    requires { ⌜ StageRows (now rep) st ⌝ }
+    ensures rows { λ r. ⌜ StageRows (now (rep .entry)) r ⌝ }
+    ensures stepped { λ r. ⌜ Stepped (tableAt (now (kind .entry)) (now (first .entry)) (now (second .entry))) n (now (rep .entry)) (now (ekind .entry)) (now (ecell .entry)) p st r ⌝ }
+{
+    if ekind[p] != 0 {
+        return hear(n, rep, ecell[p], st);
+    }
+    make(kind, first, second, n, rep, ekind, ecell, p, dead, st)
+}
+
+// Is a plan good enough to look no further?
+fn enough(best: Choice) -> bool
+    ensures { λ r. ⌜ (r ≡ true → best .ready ≡ false) ⌝ }
+{
+    if best.ready {
+        return false;
+    }
+    best.trial.pairs <= 1
+}
+
+// The plan of a step: ready if everything that is to be made is built. Positions with dead ends before are taken sooner.
 pub fn plan<'a>(
     kind: &'a [u8; 128],
     first: &'a [u8; 128],
@@ -170,46 +374,38 @@ pub fn plan<'a>(
     ekind: &'a [u8; 128],
     ecell: &'a [u8; 128],
     count: usize,
+    dead: &'a [u16; 128],
 ) -> Choice
     requires { ⌜ Rows n (now kind) (now first) (now second) ⌝ }
-    requires { ⌜ Kept n (tableAt (now kind) (now first) (now second)) (now rep) ⌝ }
+    requires { ⌜ Solved n (tableAt (now kind) (now first) (now second)) (now rep) ⌝ }
     requires { ⌜ EventRows n (now ecell) count ⌝ }
     ensures { λ r. ⌜ Plans (tableAt (now (kind .entry)) (now (first .entry)) (now (second .entry))) (runAt count (now (ekind .entry)) (now (ecell .entry))) (now (rep .entry)) r ⌝ }
 {
-    let mut m = [0; 129];
-    let mut best = Choice {
-        ready: true,
-        pairs: 16384,
-        want: [0; 129],
-        bare: [0; 129],
+    let own = own_marks(n, rep);
+    let mut st = Stage {
+        known: [0; 129],
+        seen: [0; 129],
+        built: own,
+        best: Choice {
+            ready: true,
+            at: 0,
+            load: 0,
+            trial: Trial {
+                pairs: 0,
+                want: [0; 129],
+                bare: [0; 129],
+            },
+        },
     };
     let mut p = 0;
     while p < count {
-        if ekind[p] == 0 {
-            let o = open_known(kind, first, second, n, rep, m);
-            m = o.seen;
-            let b = choose(
-                kind,
-                first,
-                second,
-                n,
-                rep,
-                &o.seen,
-                &o.built,
-                ekind,
-                ecell,
-                p,
-                best,
-            );
-            best = b;
-            if enough(best.ready, best.pairs) {
-                return best;
-            }
-        } else {
-            let l = learn(n, rep, m, cell(ecell[p]));
-            m = l;
-        }
+        let next = step(kind, first, second, n, rep, ekind, ecell, p, dead[p], st);
+        st = next;
         p += 1;
+        let best = st.best;
+        if enough(best) {
+            return best;
+        }
     }
-    best
+    st.best
 }

@@ -3,14 +3,17 @@ use super::list::value_list;
 use super::pairs::Next;
 use super::pairs::next_pair;
 use super::plan::plan;
+use classes::Settled;
+use classes::clash::clash;
 use classes::start;
 use classes::unify;
-use hopeless::hopes::hopeless;
+use classes::upward::raise;
 ghost use Prim.Native.Nat.{_≤_, _<_};
 ghost use Rattle.model.specs.Case.{WellFormed};
 ghost use Rattle.model.specs.Stored.{tableAt, runAt};
 ghost use Rattle.theory.specs.Cells.{Rows, EventRows};
 ghost use Rattle.classes.specs.Kept.{Kept, Solved};
+ghost use Rattle.classes.specs.Settle.{Unifies};
 ghost use Rattle.solving.specs.Pairs.{place, ChildOf};
 ghost use Rattle.solving.specs.Searches.{Searched, Solves};
 
@@ -34,8 +37,38 @@ pub struct Solution {
     pub list: [u8; 128],
 }
 
+// The classes with those of x and y in one, closed upwards; not ok if no messages of the cells allow it.
+fn joined<'a>(
+    kind: &'a [u8; 128],
+    first: &'a [u8; 128],
+    second: &'a [u8; 128],
+    n: usize,
+    rep: [u8; 129],
+    x: u8,
+    y: u8,
+) -> Settled
+    requires { ⌜ Rows n (now kind) (now first) (now second) ⌝ }
+    requires { ⌜ Kept n (tableAt (now kind) (now first) (now second)) rep ⌝ }
+    requires { ⌜ (x < n) × (y < n) ⌝ }
+    ensures { λ r. ⌜ Unifies n (tableAt (now (kind .entry)) (now (first .entry)) (now (second .entry))) rep x y r ⌝ }
+{
+    if clash(kind, first, second, n, &rep, x, y, 3) {
+        return Settled {
+            ok: false,
+            rep: rep,
+        };
+    }
+    let u = unify(kind, first, second, n, rep, x, y);
+    if !u.ok {
+        return u;
+    }
+    let flat = u.rep;
+    let out = raise(kind, first, second, n, flat);
+    Settled { ok: true, rep: out }
+}
+
 // The classes of the next pair from c0 and d0 on that can be made equal.
-pub fn next_child<'a>(
+fn next_child<'a>(
     kind: &'a [u8; 128],
     first: &'a [u8; 128],
     second: &'a [u8; 128],
@@ -62,7 +95,7 @@ pub fn next_child<'a>(
                 rep: rep,
             };
         };
-        let u = unify(kind, first, second, n, rep, x as u8, y as u8);
+        let u = joined(kind, first, second, n, rep, x as u8, y as u8);
         if u.ok {
             let out = u.rep;
             return Child {
@@ -77,8 +110,21 @@ pub fn next_child<'a>(
     }
 }
 
-// Classes that right values satisfy, found from the classes rep, or that no right values satisfy these.
-pub fn search<'a>(
+// Counts a dead end at the position `at`: no pair is live there.
+fn count_dead(dead: &mut [u16; 128], at: usize, pairs: u8) {
+    if pairs != 0 {
+        return;
+    }
+    if 128 <= at {
+        return;
+    }
+    if dead[at] < 60000 {
+        dead[at] += 1;
+    }
+}
+
+// Classes that right values satisfy, found from the classes rep, or that no right values satisfy these. How many dead ends the positions had guides the choice of a step.
+fn search<'a, 'b>(
     kind: &'a [u8; 128],
     first: &'a [u8; 128],
     second: &'a [u8; 128],
@@ -86,6 +132,7 @@ pub fn search<'a>(
     ekind: &'a [u8; 128],
     ecell: &'a [u8; 128],
     count: usize,
+    dead: &'b mut [u16; 128],
     rep: [u8; 129],
 ) -> Found
     requires { ⌜ Rows n (now kind) (now first) (now second) ⌝ }
@@ -94,17 +141,19 @@ pub fn search<'a>(
     requires { ⌜ Solved n (tableAt (now kind) (now first) (now second)) rep ⌝ }
     ensures { λ r. ⌜ Searched (tableAt (now (kind .entry)) (now (first .entry)) (now (second .entry))) n (runAt count (now (ekind .entry)) (now (ecell .entry))) rep r ⌝ }
 {
-    let pl = plan(kind, first, second, n, &rep, ekind, ecell, count);
+    let pl = plan(kind, first, second, n, &rep, ekind, ecell, count, &*dead);
     if pl.ready {
         return Found {
             yes: true,
             rep: rep,
         };
     }
+    let trial = pl.trial;
+    count_dead(&mut *dead, pl.at, trial.pairs);
     let mut c = 0;
     let mut d = 0;
     loop {
-        let h = next_child(kind, first, second, n, rep, &pl.want, &pl.bare, c, d);
+        let h = next_child(kind, first, second, n, rep, &trial.want, &trial.bare, c, d);
         if !h.ok {
             return Found {
                 yes: false,
@@ -112,7 +161,17 @@ pub fn search<'a>(
             };
         }
         let next = h.rep;
-        let f = search(kind, first, second, n, ekind, ecell, count, next);
+        let f = search(
+            kind,
+            first,
+            second,
+            n,
+            ekind,
+            ecell,
+            count,
+            &mut *dead,
+            next,
+        );
         if f.yes {
             return f;
         }
@@ -137,13 +196,8 @@ pub fn solve<'a>(
     ensures { λ r. ⌜ Solves (tableAt (now (kind .entry)) (now (first .entry)) (now (second .entry))) n (runAt count (now (ekind .entry)) (now (ecell .entry))) r ⌝ }
 {
     let rep = start(kind, first, second, n);
-    if hopeless(kind, first, second, n, ekind, ecell, count, &rep) {
-        return Solution {
-            yes: false,
-            list: [0; 128],
-        };
-    }
-    let f = search(kind, first, second, n, ekind, ecell, count, rep);
+    let mut dead = [0; 128];
+    let f = search(kind, first, second, n, ekind, ecell, count, &mut dead, rep);
     let list = value_list(kind, n, &f.rep);
     Solution {
         yes: f.yes,

@@ -8,7 +8,7 @@ use Rattle.model.specs.Message.{Two, Pair, Seal, Message, Made, Built}
 use Rattle.model.specs.Case.{Cell, VA, TWO, MK, LN, Table, Run, look, Reads, Part, in-arg, in-left, Within, Lower, Known, Makable, WellFormed}
 use Rattle.theory.specs.Cells.{Opening, Formed}
 use Rattle.theory.specs.Classes.{Closed, Sat}
-use Rattle.theory.specs.Level.{Shut, Kin, built, seen, Side, Mark, Holds, Occ}
+use Rattle.theory.specs.Level.{Shut, Kin, built, seen, Side, Mark, Occ}
 use Rattle.model.proofs.Steps.{Own, own-built}
 use Rattle.model.proofs.Read.{strong, var?}
 use Rattle.theory.proofs.Parts.{look-made, Keys}
@@ -61,10 +61,6 @@ module _ (T : Table) (rep : ℕ → ℕ) where
   pub occ-same : {y c d : ℕ} → rep c ≡ rep d → Occ T rep y c → Occ T rep y d
   occ-same e (Occ.here i) = Occ.here (sym e ∙ i)
   occ-same e (Occ.down {d = x} p o) = Occ.down (subst (λ r. Part (T r) x) e p) o
-
-  pub occ-holds : {ev : Run} {p y c : ℕ} → T (rep y) ≡ VA → Mark T rep ev p seen y → Occ T rep y c → Holds T rep ev p c
-  occ-holds v h (Occ.here e) = Holds.here (ap T e ∙ v) (Mark.same (sym e) h)
-  occ-holds v h (Occ.down q o) = Holds.up q (occ-holds v h o)
 
   module _ (closed : Closed T rep) where
     -- A class that stands in a variable of a cell stands in the cell.

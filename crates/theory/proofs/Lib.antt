@@ -11,9 +11,8 @@ pub mod Twins
 pub mod Merge
 pub mod Level
 pub mod Heard
-pub mod Theorem
 pub mod Step
-pub mod Hopeless
 pub mod Sweep
+pub mod Cut
 pub mod Rows
 pub mod MarkRows

@@ -4,17 +4,16 @@ use mathlib.Core.Logic.{_⊎_}
 use mathlib.Core.Option.{some}
 use Prim.Native.Nat.{ℕ}
 use Rattle.model.specs.Message.{Message}
-use Rattle.model.specs.Case.{VA, MK, Table, Run, look, Reads, Lower, Right, WellFormed}
+use Rattle.model.specs.Case.{VA, MK, Table, Run, look, Reads, Lower, Right}
 use Rattle.theory.specs.Cells.{Formed, Grounds}
 use Rattle.theory.specs.Classes.{Sat}
 use Rattle.model.specs.Values.{RightList, RightValues}
-use Rattle.theory.specs.Level.{built, Mark, Bare, Kin, Wanted}
-use Rattle.theory.specs.Search.{None, NoneWith, State, Plan}
+use Rattle.theory.specs.Level.{built, Mark}
+use Rattle.theory.specs.Search.{None, NoneWith, State}
 use Rattle.model.proofs.Steps.{Own}
 use Rattle.theory.proofs.Answers.{τ-sat, τ-reads, run-yes}
 use Rattle.model.proofs.Read.{values-right}
-use Rattle.theory.proofs.Level.{all-built, learnt-made}
-use Rattle.theory.proofs.Theorem.{Node, no-pair-built}
+use Rattle.theory.proofs.Level.{all-built}
 
 -- Yes: at every position what is to be made is built; then the values that put every free class to an own message are right.
 pub search-yes : (T : Table) (ev : Run) (rep : ℕ → ℕ) (ν τ : ℕ → Message) → Formed T → State T rep → Grounds T rep ν τ → ((y : ℕ) → Own (ν y)) →
@@ -24,22 +23,7 @@ search-yes T ev rep ν τ ok st τr own all = record {
       (λ c v. subst Own (sym (τr c ∙ ap (look (ν (rep c)) τ) v)) (own (rep c))) all;
 }
 
--- No: each pair was tried.
-pub search-no : (T : Table) (ev : Run) (rep : ℕ → ℕ) (p : ℕ) (want bare : ℕ → Type 0) → Formed T → WellFormed T ev → State T rep → Plan T ev rep p want bare →
-    ((c d : ℕ) → rep c ≡ c → rep d ≡ d → want c → bare d → Kin (T c) (T d) → (c ≡ d → ⊥) → NoneWith T ev rep c d) → None T ev rep
-search-no T ev rep p want bare ok wf st plan tried m mr right ms = plan .fails (no-pair-built T rep ev p m node ok mr ms apart (right .makes) (plan .cell) (plan .at))
-  where
-    node : Node T rep ev p
-    node = record {
-      names = λ c d n e i. cc (st .idem c, st .idem d, st .names (rep c) (rep d) n e i);
-      marked = plan .marked;
-      made = learnt-made T rep (st .closed) (ok .lower) wf;
-    }
-
-    apart : (c d : ℕ) → Wanted T rep ev p c → Bare T rep ev p d → Kin (T (rep c)) (T (rep d)) → (rep c ≡ rep d → ⊥) → m c ≡ m d → ⊥
-    apart c d w b k n e = tried (rep c) (rep d) (st .idem c) (st .idem d) (plan .wants c w) (plan .bares d b) k n m mr right ms (sym (ms c) ∙ (e ∙ ms d))
-
--- or there are no values that make it equal, right or not,
+-- A pair was tried if there are no values that make it equal, right or not,
 pub clash-none : (T : Table) (ev : Run) (rep : ℕ → ℕ) (c d : ℕ) → ((m : ℕ → Message) → Reads T m m → Sat rep m → m c ≡ m d → ⊥) → NoneWith T ev rep c d
 clash-none T ev rep c d clash m mr right ms e = clash m mr ms e
 

@@ -1,11 +1,9 @@
 -- What he can see and build before a position of the run, told by the classes of the cells alone.
 -- A free class counts as built: whatever it will be, he chooses it. No message is looked at.
 use mathlib.Core.Path.{_≡_}
-use mathlib.Core.Logic.{_⊎_}
-use mathlib.Core.Option.{some}
-use Prim.Native.Nat.{ℕ, _<_}
+use Prim.Native.Nat.{ℕ}
 use Rattle.model.specs.Message.{One, Two, Seal}
-use Rattle.model.specs.Case.{Cell, AT, VA, ONE, TWO, MK, Table, Run, Part, Learnt}
+use Rattle.model.specs.Case.{Cell, AT, VA, ONE, TWO, Table, Run, Part, Learnt}
 use Rattle.theory.specs.Cells.{Makes, Opening}
 
 -- `Shut h`: a message of the kind h does not give its parts by itself.
@@ -40,27 +38,3 @@ module _ (T : Table) (rep : ℕ → ℕ) (ev : Run) (p : ℕ) where
     zero : {c : ℕ} → T (rep c) ≡ AT 0 → Mark built c
     had : {c : ℕ} → Mark seen c → Mark built c
     makes : {c a b : ℕ} → Makes (T (rep c)) a b → Mark built a → Mark built b → Mark built c
-
-  -- `Bare c`: c is seen, has parts, and cannot be put together from them.
-  pub data Bare : ℕ → Type 0 where
-    bare : {c x : ℕ} → Part (T (rep c)) x → Mark seen c → ((a b : ℕ) → Makes (T (rep c)) a b → Mark built a → Mark built b → ⊥) → Bare c
-
-  -- `Needed c`: to build c may help at p: it is to be made there, or would open a cell that is seen, or is an unbuilt part of such a cell.
-  pub data Needed : ℕ → Type 0 where
-    makes : {t : ℕ} → ev p ≡ some (MK t) → Needed t
-    keys : {c k d : ℕ} → Opening (λ c. T (rep c)) c k d → Mark seen c → (Mark built k → ⊥) → Needed k
-    parts : {c d : ℕ} → Needed c → Part (T (rep c)) d → (Mark built d → ⊥) → Needed d
-
-  -- `Holds c`: a free class that is seen stands in c.
-  pub data Holds : ℕ → Type 0 where
-    here : {c : ℕ} → T (rep c) ≡ VA → Mark seen c → Holds c
-    up : {c d : ℕ} → Part (T (rep c)) d → Holds d → Holds c
-
-  -- `Over c`: c is to be made before p, or stands in such a cell, and holds a free class that is seen.
-  pub data Over : ℕ → Type 0 where
-    makes : {q t : ℕ} → q < p → ev q ≡ some (MK t) → Holds t → Over t
-    parts : {c d : ℕ} → Over c → Part (T (rep c)) d → Holds d → Over d
-
-  -- The cells that may have to be made equal to a bare one.
-  abbrev pub Wanted : ℕ → Type 0
-  Wanted c = Needed c ⊎ Over c

@@ -3,6 +3,6 @@ pub mod Cells
 pub mod Classes
 pub mod Marks
 pub mod Level
-pub mod Hope
 pub mod Search
 pub mod Sweep
+pub mod Cut

@@ -1,26 +1,26 @@
--- The loops that make the rows to start from, and that the row of bare cells holds them.
+-- The loops that make the rows to start from, and that the row of bare cells has them.
 use mathlib.Core.Path.{_≡_, refl, sym, _∙_, subst}
 use mathlib.Core.List.{List}
 use Prim.Native.Nat.{ℕ, zero, suc, _+_, _≤_, _<_}
 use native.Mathlib.Omega.{arith}
 use lib.ListN.{length, getD, set, length-set}
 use borrow.Author.Count.{below-more}
-use Rattle.model.specs.Case.{PR, Table, Part}
+use Rattle.model.specs.Case.{PR, Table, Run, Part}
 use Rattle.model.specs.Stored.{cellAt, tableAt}
 use Rattle.model.proofs.Read.{clash}
 use Rattle.model.proofs.Stored.{seal-kind}
 use Rattle.theory.specs.Cells.{Rows, EventRows, Makes, Opening, classAt, On}
 use Rattle.theory.specs.Sweep.{Swept}
+use Rattle.theory.specs.Cut.{Bares}
 use Rattle.theory.proofs.Rows.{rows-part}
-use Rattle.theory.proofs.Sweep.{bare-least}
 use Rattle.knowledge.specs.Knowledge.{ClassRow, Marked}
 use Rattle.knowledge.specs.Sweeps.{rightPart, rightClass}
 use Rattle.knowledge.proofs.ByKind.{makes-cell, makes-ends}
 use Rattle.theory.proofs.MarkRows.{set-kept, set-on}
 use Rattle.wants.specs.declared.starts.Pick.{Pick}
 use Rattle.wants.specs.declared.starts.Pick.the-variants as pick
-use Rattle.wants.specs.Starts.{EndsAt, BareAt, BareTo, HoldsBare, LacksKey, KeyTold, Keyed, FreeSeen, DueTold, Due, Joint}
-use Rattle.wants.proofs.Rowing.{wider-none, wider-mark, exact-sound, exact-swept}
+use Rattle.wants.specs.Starts.{EndsAt, BareAt, BareTo, LacksKey, KeyTold, Keyed, FreeSeen, DueTold, Due, Joint}
+use Rattle.wants.proofs.Rowing.{wider-none, wider-mark}
 
 -- ---- one more turn of a loop: a mark at c
 
@@ -60,15 +60,12 @@ module _ {T : Table} {rep seens builts : List ℕ} where
   bare-skip {r} {c} w n = record { long = w .long; bares = more-off (BareAt T rep seens builts) r c n (w .bares) }
 
 module _ {n : ℕ} {K F S rep : List ℕ} (w : Rows n K F S) (row : ClassRow n rep) where
-  pub bare-held : {seens builts r : List ℕ} → BareTo (tableAt K F S) rep seens builts r n → HoldsBare (tableAt K F S) rep seens builts r
-  bare-held {seens} {builts} {r} all ev p x = bare-least (tableAt K F S) (classAt rep) ev p (row .idem) (On seens) (On builts) sw (exact-sound row x) (On r)
-      (λ c d e q s n. all .bares c (rows-part w c d q .0) (record { whole = s; shut = λ l k i. pair c l k e i s n; part = (d, q); lacks = n }))
+  pub bare-rows : {ev : Run} {p : ℕ} {seens builts r : List ℕ} → Swept (tableAt K F S) (classAt rep) ev p (On seens) (On builts) → BareTo (tableAt K F S) rep seens builts r n →
+      Bares (tableAt K F S) (classAt rep) (On seens) (On builts) (On r)
+  bare-rows {seens = seens} {builts = builts} sw all c d e q s n = all .bares c (rows-part w c d q .0) (record { whole = s; shut = λ l k i. pair c l k e i s n; part = (d, q); lacks = n })
     where
       T : Table
       T = tableAt K F S
-
-      sw : Swept T (classAt rep) ev p (On seens) (On builts)
-      sw = exact-swept row x
 
       -- The parts of a pair that is seen are built.
       pair : (c l k : ℕ) → classAt rep c ≡ c → T c ≡ PR l k → On seens c → ((a b : ℕ) → Makes (T c) a b → On builts (classAt rep a) → On builts (classAt rep b) → ⊥) → ⊥

@@ -1,31 +1,35 @@
 -- The sets of one step of the search, in rows of marks. Each row may have more than its set.
--- HoldsNeeded, HeldRow, HoldsOver: three sets, one row each; HoldsWanted: the cells that may have to be made equal to a bare one.
+-- NeedRow, HeldRow, OverRow: three sets, one row each; WantedRow: the cells that may have to be made equal to a bare one.
 use mathlib.Core.Path.{_≡_}
 use mathlib.Core.List.{List}
-use mathlib.Core.Option.{some}
-use Prim.Native.Nat.{ℕ}
-use Rattle.model.specs.Case.{VA, MK, Table, Run, Part}
-use Rattle.model.specs.Stored.{runAt}
+use Prim.Native.Nat.{ℕ, _<_}
+use lib.ListN.{getD}
+use Rattle.model.specs.Case.{VA, SE, Table, Part}
 use Rattle.theory.specs.Cells.{classAt, On}
-use Rattle.theory.specs.Level.{Needed, Holds, Over, Wanted}
-use Rattle.wants.specs.Starts.{Exact}
 
--- The row r holds the needed cells of each position at which the rows are the marks and only the cell `goal` may be to be made.
-abbrev pub HoldsNeeded : Table → List ℕ → List ℕ → List ℕ → ℕ → List ℕ → Type 0
-HoldsNeeded T rep seens builts goal r = (ev : Run) (p : ℕ) → Exact T rep ev p seens builts → ((t : ℕ) → ev p ≡ some (MK t) → t ≡ goal) →
-    (c : ℕ) → Needed T (classAt rep) ev p c → On r (classAt rep c)
+-- The row r has the keys that are not built of the seals that are seen, and of its cells the parts that are not built.
+pub record NeedRow (T : Table) (rep seens builts r : List ℕ) : Type 0 where
+  pub keys : (c b k : ℕ) → T c ≡ SE b k → On seens c → (On builts (classAt rep k) → ⊥) → On r (classAt rep k)
+  pub lower : (c d : ℕ) → classAt rep c ≡ c → On r c → Part (T c) d → (On builts (classAt rep d) → ⊥) → On r (classAt rep d)
 
 -- The row r has the cells that hold a free class that is seen.
 pub record HeldRow (T : Table) (rep seens r : List ℕ) : Type 0 where
   pub here : (c : ℕ) → classAt rep c ≡ c → T c ≡ VA → On seens c → On r c
   pub up : (c d : ℕ) → classAt rep c ≡ c → Part (T c) d → On r (classAt rep d) → On r c
 
--- The row r holds the cells over a free class that is seen, if the row `held` holds those that hold one.
-abbrev pub HoldsOver : Table → List ℕ → List ℕ → List ℕ → List ℕ → ℕ → List ℕ → Type 0
-HoldsOver T rep held kinds cells p r = (count : ℕ) → ((c : ℕ) → Holds T (classAt rep) (runAt count kinds cells) p c → On held (classAt rep c)) →
-    (c : ℕ) → Over T (classAt rep) (runAt count kinds cells) p c → On r (classAt rep c)
+-- The row r has the cells to be made before p, and their parts, as far as they are in the row `held`.
+pub record OverRow (T : Table) (rep held kinds cells : List ℕ) (p : ℕ) (r : List ℕ) : Type 0 where
+  pub due : (q : ℕ) → q < p → getD kinds q 0 ≡ 0 → On held (classAt rep (getD cells q 0)) → On r (classAt rep (getD cells q 0))
+  pub parts : (c d : ℕ) → classAt rep c ≡ c → On r c → Part (T c) d → On held (classAt rep d) → On r (classAt rep d)
 
--- The row r holds the wanted cells at position p.
-abbrev pub HoldsWanted : Table → List ℕ → List ℕ → List ℕ → List ℕ → List ℕ → ℕ → List ℕ → Type 0
-HoldsWanted T rep seens builts kinds cells p r = (count : ℕ) → Exact T rep (runAt count kinds cells) p seens builts →
-    (c : ℕ) → Wanted T (classAt rep) (runAt count kinds cells) p c → On r (classAt rep c)
+-- The row r has the cells that may have to be made equal to a bare one, at the MK at p: what is to be made there, with what may help to build it, and the cells over a free class.
+pub record WantedRow (T : Table) (rep seens builts kinds cells : List ℕ) (p : ℕ) (r : List ℕ) : Type 0 where
+  pub need : List ℕ
+  pub held : List ℕ
+  pub over : List ℕ
+  pub goal : On need (classAt rep (getD cells p 0))
+  pub needs : NeedRow T rep seens builts need
+  pub holds : HeldRow T rep seens held
+  pub tops : OverRow T rep held kinds cells p over
+  pub left : (c : ℕ) → On need c → On r c
+  pub right : (c : ℕ) → classAt rep c ≡ c → On over c → On r c

@@ -1,25 +1,15 @@
--- The marks that the sets of a step start from, as loops compute them from the marks of what is seen and built at a position of the run.
--- Exact: rows that are the marks at a position; EndsAt: the classes of parts; Wider: more marks;
--- BareAt, BareTo, HoldsBare: the bare cells; LacksKey, KeyTold, Keyed: keys; FreeSeen: free cells; DueTold, Due: what is to be made; Joint: two rows.
+-- The marks that the sets of a step start from, as loops compute them from the marks of what is seen and built.
+-- EndsAt: the classes of parts; Wider: more marks; BareAt, BareTo: the bare cells; LacksKey, KeyTold, Keyed: keys; FreeSeen: free cells; DueTold, Due: what is to be made; Joint: two rows.
 use mathlib.Core.Path.{_≡_}
-use mathlib.Core.Logic.{_↔_}
 use mathlib.Core.List.{List}
 use Prim.Native.Nat.{ℕ, _≤_, _<_}
 use lib.ListN.{length, getD}
-use Rattle.model.specs.Case.{PR, SE, Table, Run, Part}
+use Rattle.model.specs.Case.{PR, SE, Table, Part}
 use Rattle.theory.specs.Cells.{Makes, classAt, On}
-use Rattle.theory.specs.Level.{Mark, seen, built, Bare}
 use Rattle.knowledge.specs.Knowledge.{Marked}
 use Rattle.knowledge.specs.Sweeps.{leftClass, rightClass}
 use Rattle.wants.specs.declared.starts.Pick.{Pick}
 use Rattle.wants.specs.declared.starts.Pick.the-variants as pick
-
--- The rows are the marks of what is seen and of what is built at position p.
-pub record Exact (T : Table) (rep : List ℕ) (ev : Run) (p : ℕ) (seens builts : List ℕ) : Type 0 where
-  pub seen : (c : ℕ) → On seens (classAt rep c) ↔ Mark T (classAt rep) ev p seen c
-  pub built : (c : ℕ) → On builts (classAt rep c) ↔ Mark T (classAt rep) ev p built c
-  pub seen-marked : Marked rep seens
-  pub built-marked : Marked rep builts
 
 -- The cells l and r stand for the classes of the parts of c.
 pub record EndsAt (T : Table) (rep : List ℕ) (c l r : ℕ) : Type 0 where
@@ -45,10 +35,6 @@ pub record BareAt (T : Table) (rep seens builts : List ℕ) (c : ℕ) : Type 0 w
 pub record BareTo (T : Table) (rep seens builts r : List ℕ) (upto : ℕ) : Type 0 where
   pub long : length r ≡ 129
   pub bares : (c : ℕ) → c < upto → BareAt T rep seens builts c → On r c
-
--- The row r holds the bare cells of each position at which the rows are the marks.
-abbrev pub HoldsBare : Table → List ℕ → List ℕ → List ℕ → List ℕ → Type 0
-HoldsBare T rep seens builts r = (ev : Run) (p : ℕ) → Exact T rep ev p seens builts → (d : ℕ) → Bare T (classAt rep) ev p d → On r (classAt rep d)
 
 -- The cell c is a seal that is seen, and its key is not built.
 pub record LacksKey (T : Table) (rep seens builts : List ℕ) (c : ℕ) : Type 0 where

@@ -6,14 +6,14 @@ use super::starts::free_seen;
 use super::starts::keys;
 use knowledge::cell;
 use knowledge::learn;
-ghost use Prim.Native.Nat.{_≤_, _<_, _+_};
+ghost use Prim.Native.Nat.{_+_};
 ghost use Rattle.model.specs.Stored.{tableAt};
 ghost use Rattle.theory.specs.Cells.{Rows, EventRows};
 ghost use Rattle.knowledge.specs.Knowledge.{ClassRow, Marked};
-ghost use Rattle.wants.specs.Starts.{Joint};
-ghost use Rattle.wants.specs.Sets.{HoldsNeeded, HeldRow, HoldsOver, HoldsWanted};
+ghost use Rattle.wants.specs.Starts.{Wider, Joint};
+ghost use Rattle.wants.specs.Sets.{NeedRow, HeldRow, OverRow, WantedRow};
 
-// What is to be made, the keys that are not built of the seals that are seen, and of such cells the parts that are not built.
+// The marks of `start`, the keys that are not built of the seals that are seen, and of such cells the parts that are not built.
 pub fn needed<'a>(
     kind: &'a [u8; 128],
     first: &'a [u8; 128],
@@ -22,15 +22,16 @@ pub fn needed<'a>(
     rep: &'a [u8; 129],
     seen: &'a [u8; 129],
     built: &'a [u8; 129],
-    goal: usize,
+    start: [u8; 129],
 ) -> [u8; 129]
     requires { ⌜ Rows n (now kind) (now first) (now second) ⌝ }
     requires { ⌜ ClassRow n (now rep) ⌝ }
-    requires { ⌜ goal ≤ 128 ⌝ }
-    ensures { λ r. ⌜ HoldsNeeded (tableAt (now (kind .entry)) (now (first .entry)) (now (second .entry))) (now (rep .entry)) (now (seen .entry)) (now (built .entry)) goal r ⌝ }
+    requires { ⌜ Marked (now rep) (now built) ⌝ }
+    requires { ⌜ Marked (now rep) start ⌝ }
+    ensures wider { λ r. ⌜ Wider (now (rep .entry)) start r ⌝ }
+    ensures row { λ r. ⌜ NeedRow (tableAt (now (kind .entry)) (now (first .entry)) (now (second .entry))) (now (rep .entry)) (now (seen .entry)) (now (built .entry)) r ⌝ }
 {
-    let m = learn(n, rep, [0; 129], goal);
-    let k = keys(kind, first, second, n, rep, seen, built, m);
+    let k = keys(kind, first, second, n, rep, seen, built, start);
     lowered(kind, first, second, n, rep, built, 0, k)
 }
 
@@ -67,7 +68,7 @@ pub fn over<'a>(
     requires { ⌜ Rows n (now kind) (now first) (now second) ⌝ }
     requires { ⌜ ClassRow n (now rep) ⌝ }
     requires { ⌜ EventRows n (now ecell) p ⌝ }
-    ensures { λ r. ⌜ HoldsOver (tableAt (now (kind .entry)) (now (first .entry)) (now (second .entry))) (now (rep .entry)) (now (hold .entry)) (now (ekind .entry)) (now (ecell .entry)) p r ⌝ }
+    ensures { λ r. ⌜ OverRow (tableAt (now (kind .entry)) (now (first .entry)) (now (second .entry))) (now (rep .entry)) (now (hold .entry)) (now (ekind .entry)) (now (ecell .entry)) p r ⌝ }
 {
     let m = due(n, rep, hold, ekind, ecell, p);
     lowered(kind, first, second, n, rep, hold, 1, m)
@@ -104,10 +105,12 @@ pub fn wanted<'a>(
     requires { ⌜ Rows n (now kind) (now first) (now second) ⌝ }
     requires { ⌜ ClassRow n (now rep) ⌝ }
     requires { ⌜ Marked (now rep) (now seen) ⌝ }
+    requires { ⌜ Marked (now rep) (now built) ⌝ }
     requires { ⌜ EventRows n (now ecell) (p + 1) ⌝ }
-    ensures { λ r. ⌜ HoldsWanted (tableAt (now (kind .entry)) (now (first .entry)) (now (second .entry))) (now (rep .entry)) (now (seen .entry)) (now (built .entry)) (now (ekind .entry)) (now (ecell .entry)) p r ⌝ }
+    ensures { λ r. ⌜ WantedRow (tableAt (now (kind .entry)) (now (first .entry)) (now (second .entry))) (now (rep .entry)) (now (seen .entry)) (now (built .entry)) (now (ekind .entry)) (now (ecell .entry)) p r ⌝ }
 {
-    let need = needed(kind, first, second, n, rep, seen, built, cell(ecell[p]));
+    let goal = learn(n, rep, [0; 129], cell(ecell[p]));
+    let need = needed(kind, first, second, n, rep, seen, built, goal);
     let hold = holds(kind, first, second, n, rep, seen);
     let top = over(kind, first, second, n, rep, &hold, ekind, ecell, p);
     joint(need, top)

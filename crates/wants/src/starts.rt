@@ -10,7 +10,7 @@ ghost use Rattle.model.specs.Stored.{tableAt};
 ghost use Rattle.theory.specs.Cells.{Rows, EventRows};
 ghost use Rattle.knowledge.specs.Knowledge.{ClassRow, Marked};
 ghost use Rattle.knowledge.specs.Sweeps.{Decides};
-ghost use Rattle.wants.specs.Starts.{EndsAt, BareAt, HoldsBare, KeyTold, Keyed, FreeSeen, DueTold, Due};
+ghost use Rattle.wants.specs.Starts.{EndsAt, BareAt, BareTo, KeyTold, Keyed, FreeSeen, DueTold, Due};
 
 // A cell to be marked, or none.
 pub enum Pick {
@@ -78,7 +78,7 @@ pub fn bares<'a>(
 ) -> [u8; 129]
     requires { ⌜ Rows n (now kind) (now first) (now second) ⌝ }
     requires { ⌜ ClassRow n (now rep) ⌝ }
-    ensures { λ r. ⌜ HoldsBare (tableAt (now (kind .entry)) (now (first .entry)) (now (second .entry))) (now (rep .entry)) (now (seen .entry)) (now (built .entry)) r ⌝ }
+    ensures { λ r. ⌜ BareTo (tableAt (now (kind .entry)) (now (first .entry)) (now (second .entry))) (now (rep .entry)) (now (seen .entry)) (now (built .entry)) r n ⌝ }
 {
     let mut m = [0; 129];
     let mut c = 0;

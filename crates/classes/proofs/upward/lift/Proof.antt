@@ -1,4 +1,4 @@
--- The loop's invariant: the classes have moved by joins of cells that are alike, and if by none, the cells below c have met their twins.
+-- The loop's invariant: the classes have moved by joins of cells that are alike, and if by none, no cell below c that stands for its class has a fellow.
 use native.Mathlib.Omega.{arith}
 use Prim.Native.Nat.{_≤_, _-_}
 use mathlib.Core.Path.{_≡_, subst}

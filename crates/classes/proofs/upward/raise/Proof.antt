@@ -41,7 +41,7 @@ returns c =
       sat = stage .sat;
       most = stage .most;
       up = subst (λ (k : List ℕ). (x y : ℕ) → Alike (classAt k) (T x) (T y) → classAt k x ≡ classAt k y) (sym (moved .still quiet))
-          (met-up (s .pre .0) (l .loop .inv .holds .kept) (q .lift .ensures .met quiet));
+          (met-up (s .pre .0) (l .loop .inv .holds) (q .lift .ensures .met quiet));
     }
 
 loop-less : tie.Need-loop-less Inv-loop μ-loop

@@ -1,4 +1,4 @@
--- A case for each test.
+-- Yes only where the plan is not ready.
 use mathlib.Core.Bool.{false≢true}
 use borrow.Author.Needs.{needs}
 use Rattle.solving.proofs.plan.enough.Statement.{statement}

@@ -6,10 +6,10 @@ use Rattle.solving.proofs.plan.live.Statement.{statement}
 use Rattle.solving.proofs.plan.live.Tie as tie
 
 abbrev Inv-loop : tie.InvT-loop
-Inv-loop kind first second n rep want bare cap k₀ c₀ k c = c ≤ n
+Inv-loop kind first second n rep want bare k₀ c₀ k c = c ≤ n
 
 abbrev μ-loop : tie.MeasureT-loop
-μ-loop kind first second n rep want bare cap k₀ c₀ k c = n - c
+μ-loop kind first second n rep want bare k₀ c₀ k c = n - c
 
 loop-holds : tie.Need-loop-holds Inv-loop μ-loop
 loop-holds c = omega arith

@@ -6,10 +6,10 @@ use Rattle.solving.proofs.plan.live_row.Statement.{statement}
 use Rattle.solving.proofs.plan.live_row.Tie as tie
 
 abbrev Inv-loop : tie.InvT-loop
-Inv-loop kind first second n rep want bare c before cap k₀ d₀ k d = d ≤ n
+Inv-loop kind first second n rep want bare c before k₀ d₀ k d = d ≤ n
 
 abbrev μ-loop : tie.MeasureT-loop
-μ-loop kind first second n rep want bare c before cap k₀ d₀ k d = n - d
+μ-loop kind first second n rep want bare c before k₀ d₀ k d = n - d
 
 loop-holds : tie.Need-loop-holds Inv-loop μ-loop
 loop-holds c = omega arith
@@ -19,8 +19,8 @@ returns c = search needs
 
 live-at-requires : tie.Need-live-at-requires Inv-loop μ-loop
 live-at-requires c κs =
-    let c3 = c .before .before .before in
-    (c3 .pre .0, (c3 .pre .1 .0, (c3 .pre .1 .1, omega arith)))
+    let s = c .before .before .before in
+    (s .pre .0, (s .pre .1 .0, (s .pre .1 .1, omega arith)))
 
 add-k : tie.Need-add-k Inv-loop μ-loop
 add-k c = omega arith

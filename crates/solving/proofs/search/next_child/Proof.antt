@@ -44,8 +44,8 @@ returns c =
     child-none (tableAt (a .kind .now) (a .first .now) (a .second .now)) (a .n) (a .t5) (a .want .now) (a .bare .now) (c5 .pre .0 .few) (place (a .c0) (a .d0)) (l .c)
     (l .d) (l .inv .0) _ refl (rw (c .enum-told .given .1) at (c2 .next-pair .ensures (a .second .now)))
 
-cast-unify : tie.Need-cast-unify Inv-loop μ-loop
-cast-unify c =
+cast-joined : tie.Need-cast-joined Inv-loop μ-loop
+cast-joined c =
     let c3 = c .before .before .before in
     let c6 = c3 .before .before .before in
     let a = c6 .args in
@@ -54,8 +54,8 @@ cast-unify c =
     let w = rw (c .before .x .given .1) at (c3 .next-pair .ensures (a .second .now)) in
     omega (arith, w .0, c6 .pre .0 .few)
 
-cast-unify-2 : tie.Need-cast-unify-2 Inv-loop μ-loop
-cast-unify-2 c =
+cast-joined-2 : tie.Need-cast-joined-2 Inv-loop μ-loop
+cast-joined-2 c =
     let c3 = c .before .before .before in
     let c6 = c3 .before .before .before in
     let a = c6 .args in
@@ -64,8 +64,8 @@ cast-unify-2 c =
     let w = rw (c .before .x .given .1) at (c3 .next-pair .ensures (a .second .now)) in
     omega (arith, w .1, c6 .pre .0 .few)
 
-unify-requires : tie.Need-unify-requires Inv-loop μ-loop
-unify-requires c κs =
+joined-requires : tie.Need-joined-requires Inv-loop μ-loop
+joined-requires c κs =
     let c3 = c .before .before .before in
     let c6 = c3 .before .before .before in
     let a = c6 .args in
@@ -98,7 +98,7 @@ returns-2 c =
     let w = rw (c4 .x .given .1) at (c6 .next-pair .ensures (a .second .now)) in
     let l = c8 .loop in
     child-found (tableAt (a .kind .now) (a .first .now) (a .second .now)) (a .n) (a .t5) (a .want .now) (a .bare .now) (c9 .pre .0 .few) (place (a .c0) (a .d0)) (l .c)
-    (l .d) (l .inv .0) x y w (c2 .unify .result) (c2 .unify .ensures) (l .inv .1) (c .before .if1 .taken)
+    (l .d) (l .inv .0) x y w (c2 .joined .result) (c2 .joined .ensures) (l .inv .1) (c .before .if1 .taken)
 
 add-d : tie.Need-add-d Inv-loop μ-loop
 add-d c =
@@ -134,7 +134,7 @@ loop-again c =
     let w = rw (c3 .x .given .1) at (c5 .next-pair .ensures (a .second .now)) in
     let l = c7 .loop in (
       failed-next (tableAt (a .kind .now) (a .first .now) (a .second .now)) (a .n) (a .t5) (a .want .now) (a .bare .now) (c8 .pre .0 .few) (place (a .c0) (a .d0)) (l .c)
-          (l .d) (l .inv .0) x y w (c .before .unify .result) (c .before .unify .ensures) (c .if1 .left),
+          (l .d) (l .inv .0) x y w (c .before .joined .result) (c .before .joined .ensures) (c .if1 .left),
       omega (arith, w .2, l .inv .1),
       omega (arith, w .1, c8 .pre .0 .few),
     )
@@ -150,9 +150,9 @@ next-child-spec =
     enum-known-x
     enum-told
     returns
-    cast-unify
-    cast-unify-2
-    unify-requires
+    cast-joined
+    cast-joined-2
+    joined-requires
     add-t24
     returns-2
     add-d

@@ -13,7 +13,7 @@ raised-requires c κs = search needs
 returns : tie.Need-returns
 returns c =
     let c2 = c .before .before in
-    held-row (c2 .pre .0) (c2 .pre .1 .0) (c .before .free-seen .ensures) (c .raised .ensures)
+    held-row (c2 .pre .0) (c .before .free-seen .ensures) (c .raised .ensures)
 
 pub holds-spec : {M : Type 1} → statement M
 holds-spec = tie.close (tie.spec free-seen-requires raised-requires returns)

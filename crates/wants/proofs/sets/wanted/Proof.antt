@@ -1,7 +1,8 @@
--- The needed cells and those over a free class, each by its contract.
+-- What is to be made and what may help to build it, and the cells over a free class, each by its contract.
 use native.Mathlib.Omega.{arith}
 use borrow.Author.Needs.{needs}
-use Rattle.wants.proofs.SetLaws.{wanted-held}
+use Rattle.knowledge.proofs.Grow.{none-marked}
+use Rattle.wants.proofs.SetLaws.{wanted-row}
 use Rattle.wants.proofs.StartLaws.{fewer-events}
 use Rattle.wants.proofs.sets.wanted.Statement.{statement}
 use Rattle.wants.proofs.sets.wanted.Tie as tie
@@ -12,32 +13,36 @@ element-copy-out-cell c = search needs
 cell-requires : tie.Need-cell-requires
 cell-requires c κs = search needs
 
+learn-requires : tie.Need-learn-requires
+learn-requires c κs =
+    let s = c .before .before in
+    (s .pre .1 .0, (none-marked, omega (arith, s .pre .0 .few, s .pre .1 .1 .1 .1 .below (s .args .p) (omega arith), c .cell .ensures)))
+
 needed-requires : tie.Need-needed-requires
 needed-requires c κs =
-    let c2 = c .before .before in
-    (c2 .pre .0, (c2 .pre .1 .0, omega (arith, c2 .pre .0 .few, c2 .pre .1 .1 .1 .below (c2 .args .p) (omega arith), c .cell .ensures)))
+    let s = c .before .before .before in
+    (s .pre .0, (s .pre .1 .0, (s .pre .1 .1 .1 .0, c .learn .ensures .marked)))
 
 holds-requires : tie.Need-holds-requires
 holds-requires c κs = search needs
 
 over-requires : tie.Need-over-requires
 over-requires c κs =
-    let c5 = c .before .before .before .before .before in
-    (c5 .pre .0, (c5 .pre .1 .0, fewer-events (c5 .pre .1 .1 .1) (omega arith)))
+    let s = c .before .before .before .before .before .before in
+    (s .pre .0, (s .pre .1 .0, fewer-events (s .pre .1 .1 .1 .1) (omega arith)))
 
 joint-requires : tie.Need-joint-requires
 joint-requires c κs = search needs
 
 returns : tie.Need-returns
 returns c =
-    let c3 = c .before .before .before in
-    let c4 = c3 .before in
-    let c5 = c4 .before in
-    let c7 = c5 .before .before in
-    let a = c7 .args in
-    wanted-held (c7 .pre .0) (c7 .pre .1 .0) (a .seen .now) (a .built .now) (c3 .holds .result) (a .ekind .now) (a .ecell .now) (c4 .needed .result)
-    (c .before .over .result) (c .joint .result) (a .p) (c5 .cell .result)
-    (c5 .cell .ensures) (c4 .needed .ensures) (c3 .holds .ensures) (c .before .over .ensures) (c .joint .ensures)
+    let h = c .before .before .before in
+    let d = h .before in
+    let l = d .before in
+    let q = l .before in
+    let s = q .before .before in
+    wanted-row (s .pre .0) (s .pre .1 .0) (q .cell .ensures) (l .learn .ensures .learnt) (d .needed .ensures .0) (d .needed .ensures .1) (h .holds .ensures)
+    (c .before .over .ensures) (c .joint .ensures)
 
 pub wanted-spec : {M : Type 1} → statement M
 wanted-spec =
@@ -45,6 +50,7 @@ wanted-spec =
     (tie.spec
     element-copy-out-cell
     cell-requires
+    learn-requires
     needed-requires
     holds-requires
     over-requires

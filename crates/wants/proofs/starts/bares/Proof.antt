@@ -5,7 +5,7 @@ use Prim.Native.Nat.{ℕ, _≤_, _-_}
 use native.Mathlib.Omega.{arith}
 use borrow.Author.Needs.{needs}
 use Rattle.model.specs.Stored.{tableAt}
-use Rattle.wants.proofs.StartLaws.{bare-none, bare-mark, bare-skip, bare-held}
+use Rattle.wants.proofs.StartLaws.{bare-none, bare-mark, bare-skip}
 use Rattle.wants.specs.Starts.{BareTo}
 use Rattle.wants.proofs.starts.bares.Statement.{statement}
 use Rattle.wants.proofs.starts.bares.Tie as tie
@@ -53,9 +53,8 @@ returns c =
     let c2 = c .before .before in
     let l = c .before in
     let a = c2 .args in
-    bare-held (c2 .pre .0) (c2 .pre .1)
-    (subst (λ (i : ℕ). BareTo (tableAt (a .kind .now) (a .first .now) (a .second .now)) (a .rep .now) (a .seen .now) (a .built .now) (l .loop .m) i) (omega arith)
-    (l .loop .inv .0))
+    subst (λ (i : ℕ). BareTo (tableAt (a .kind .now) (a .first .now) (a .second .now)) (a .rep .now) (a .seen .now) (a .built .now) (l .loop .m) i) (omega arith)
+    (l .loop .inv .0)
 
 pub bares-spec : {M : Type 1} → statement M
 bares-spec =

@@ -1,0 +1,4 @@
+pub mod Meets
+pub mod Leaks
+pub mod Grants
+pub mod Line

@@ -1,4 +1,0 @@
-pub mod KinLaws
-pub mod MeetLaws
-pub mod LeakLaws
-pub mod HopeLaws
