@@ -8,17 +8,18 @@ use Prim.Native.Nat.{ℕ, suc, _+_, _≤_, _<_}
 use native.Mathlib.Omega.{arith}
 use native.Mathlib.Decide.{decLt}
 use lib.Dec.{eqb}
-use lib.ListN.{length}
+use lib.ListN.{length, getD}
 use borrow.Author.Tests.{eqb-true, eqb-false}
 use Rattle.model.specs.Case.{Cell, MK, LN, Table, Run, Learnt}
 use Rattle.model.specs.Stored.{tableAt, runAt}
 use Rattle.model.proofs.Read.{clash}
+use Rattle.model.proofs.Stored.{var-kind}
 use Rattle.theory.specs.Cells.{Rows, classAt, On}
 use Rattle.theory.specs.Cut.{Place, at-arg, at-left, at-right, Mays, Granted}
 use Rattle.theory.specs.Sweep.{Swept}
 use Rattle.theory.proofs.MarkRows.{on?}
 use Rattle.theory.proofs.Parts.{makes-parts}
-use Rattle.theory.proofs.Rows.{rows-beyond, rows-part}
+use Rattle.theory.proofs.Rows.{rows-beyond, rows-var, rows-part}
 use Rattle.knowledge.specs.Knowledge.{ClassRow, Marked, Learns}
 use Rattle.knowledge.specs.Sweeps.{leftPart, rightPart, missing, Composed, Newly, Shows, Turned, OwnMarks}
 use Rattle.knowledge.proofs.Grow.{noMarks, none-on}
@@ -180,6 +181,26 @@ module _ {n : ℕ} {K F S rep : List ℕ} (w : Rows n K F S) {kinds cells : List
       grants = λ c d i j k o m. grant-on c d k o m;
       leak = λ c d x x′ i j o g q sd. elim (on? s (classAt rep x′)) [ inl y ↦ inl y | inr y ↦ inr (λ m. y (leak-on c d x x′ o g q sd m)) ];
     }
+
+-- Where no free class is seen nothing leaks, at whatever position.
+pub calm-still : {n : ℕ} {K F S rep : List ℕ} → Rows n K F S → {kinds cells : List ℕ} {p : ℕ} {s b : List ℕ} → ((c : ℕ) → c < n → getD K c 0 ≡ 1 → On s c → ⊥) →
+    Still (tableAt K F S) n rep kinds cells p s b → (q : ℕ) → Still (tableAt K F S) n rep kinds cells q s b
+calm-still {K = K} {F} {S} {rep} w {cells = cells} calm h q = record {
+  still = h .still;
+  need = h .need;
+  needs = h .needs;
+  earns = h .earns;
+  tight = record {
+    held = noMarks;
+    over = noMarks;
+    holds = record {
+      here = λ c i v o. absurd (calm c (rows-var w c v) (var-kind (getD K c 0) (getD F c 0) (getD S c 0) v) o);
+      up = λ c d i p o. absurd (none-on (classAt rep d) o);
+    };
+    tops = record { due = λ l h e o. absurd (none-on (classAt rep (getD cells l 0)) o); parts = λ c d i o. absurd (none-on c o) };
+    still = λ c l o. absurd (none-on c o);
+  };
+}
 
 -- ---- what is learnt
 

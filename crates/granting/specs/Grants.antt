@@ -1,5 +1,6 @@
 -- What may be seen and built before a position, if keys are granted, as marks on the cells that stand for their class. The marks may be too many.
--- Still: marks at which no rule adds one; More: how marks grow; Rounded: one round of the rules; Grants: rounds until nothing changes.
+-- Still: marks at which no rule adds one; More: how marks grow; Rounded: one round of the rules; Grants: rounds until nothing changes;
+-- GrantRows: the rows that are kept from position to position.
 use mathlib.Core.Path.{_≡_}
 use mathlib.Core.Bool.{Bool, true, false}
 use mathlib.Core.List.{List}
@@ -8,7 +9,9 @@ use Rattle.model.specs.Case.{Table}
 use Rattle.theory.specs.Cells.{On}
 use Rattle.knowledge.specs.Knowledge.{Marked}
 use Rattle.knowledge.specs.Sweeps.{Newly, Shows, missing}
+use Rattle.wants.specs.Starts.{BareTo}
 use Rattle.wants.specs.Sets.{NeedRow}
+use Rattle.granting.specs.declared.grants.Grant.{Grant}
 use Rattle.granting.specs.Meets.{Earns}
 use Rattle.granting.specs.Leaks.{Tight}
 
@@ -37,3 +40,10 @@ pub record Rounded (T : Table) (n : ℕ) (rep kinds cells : List ℕ) (p : ℕ) 
 pub record Grants (T : Table) (n : ℕ) (rep kinds cells : List ℕ) (p : ℕ) (s b s′ b′ : List ℕ) : Type 0 where
   pub more : More rep s b s′ b′
   pub still : Still T n rep kinds cells p s′ b′
+
+-- The rows of what is granted. If calm, no rule adds a mark at any position, and the bare cells are those of the marks.
+pub record GrantRows (T : Table) (n : ℕ) (rep kinds cells : List ℕ) (g : Grant) : Type 0 where
+  pub seen-marked : Marked rep (g .seen)
+  pub built-marked : Marked rep (g .built)
+  pub still : g .calm ≡ true → (p : ℕ) → Still T n rep kinds cells p (g .seen) (g .built)
+  pub bares : g .calm ≡ true → BareTo T rep (g .seen) (g .built) (g .bare) n

@@ -200,8 +200,8 @@ pub struct Lined {
     pub cells: [u8; 129],
 }
 
-// The best way down from the class c, which is not built.
-pub fn line<'a>(
+// The best way down from the class c, which is not built; the costs that are worked out for it are kept.
+pub fn line<'a, 'b>(
     kind: &'a [u8; 128],
     first: &'a [u8; 128],
     second: &'a [u8; 128],
@@ -209,6 +209,7 @@ pub fn line<'a>(
     rep: &'a [u8; 129],
     built: &'a [u8; 129],
     bare: &'a [u8; 129],
+    costs: &'b mut [u8; 129],
     c: usize,
 ) -> Lined
     requires { ⌜ Rows n (now kind) (now first) (now second) ⌝ }
@@ -217,8 +218,7 @@ pub fn line<'a>(
     requires { ⌜ Lacking n (now rep) (now built) c ⌝ }
     ensures { λ r. ⌜ LineRow (tableAt (now (kind .entry)) (now (first .entry)) (now (second .entry))) (now (rep .entry)) (now (built .entry)) c (r .cells) ⌝ }
 {
-    let mut costs = [255; 129];
-    let k = cost(kind, first, second, n, rep, built, bare, &mut costs, n, c);
-    let m = way(kind, first, second, n, rep, built, &costs, c);
+    let k = cost(kind, first, second, n, rep, built, bare, &mut *costs, n, c);
+    let m = way(kind, first, second, n, rep, built, &*costs, c);
     Lined { pairs: k, cells: m }
 }

@@ -1,7 +1,7 @@
 -- The marks as the run goes on, what is tried at a step, and the plan of a step.
 use mathlib.Core.Path.{_≡_, refl, sym, _∙_, ap, subst}
 use mathlib.Core.Logic.{inl, inr}
-use mathlib.Core.Bool.{true, false, true≢false}
+use mathlib.Core.Bool.{Bool, true, false, true≢false}
 use mathlib.Core.List.{List}
 use mathlib.Core.Option.{some}
 use Prim.Native.Nat.{ℕ, _+_, _<_}
@@ -13,29 +13,31 @@ use Rattle.model.specs.Stored.{tableAt, runAt}
 use Rattle.model.proofs.Read.{clash}
 use Rattle.model.proofs.Stored.{run-below}
 use Rattle.theory.specs.Cells.{Rows, Makes, classAt, On}
-use Rattle.theory.specs.Level.{Mark, seen, built}
+use Rattle.theory.specs.Level.{Side, Mark, seen, built}
 use Rattle.theory.specs.Cut.{Enough}
 use Rattle.theory.specs.Sweep.{Swept}
 use Rattle.theory.proofs.Cut.{granted-enough, wanting-enough}
 use Rattle.theory.proofs.Rows.{rows-formed}
-use Rattle.theory.proofs.Sweep.{opening-class}
+use Rattle.theory.proofs.Sweep.{On as sideOn, opening-class, mark-later, mark-least}
 use Rattle.classes.specs.Kept.{Kept, Solved}
 use Rattle.classes.proofs.SolvedLaws.{solved-state}
 use Rattle.knowledge.specs.Knowledge.{ClassRow, Marked, Starts, Learns, Opened}
 use Rattle.knowledge.specs.Sweeps.{OwnMarks}
 use Rattle.knowledge.specs.declared.Marks.{Marks}
 use Rattle.knowledge.proofs.ClassRows.{kept-row}
-use Rattle.knowledge.proofs.Start.{starts-none, starts-same, starts-learn, starts-opened}
+use Rattle.knowledge.proofs.Start.{starts-learn}
+use Rattle.wants.specs.Starts.{BareTo}
 use Rattle.wants.proofs.SetLaws.{rows-sets}
 use Rattle.wants.proofs.StartLaws.{bare-rows}
 use Rattle.granting.specs.Meets.{May}
-use Rattle.granting.specs.Grants.{Grants}
+use Rattle.granting.specs.Grants.{Still, Grants, GrantRows}
+use Rattle.granting.specs.declared.grants.Grant.{Grant}
 use Rattle.granting.specs.Line.{Lacking}
 use Rattle.granting.proofs.GrantLaws.{may-mays, still-granted, heard-none, heard-more, heard-make, heard-learn}
 use Rattle.solving.specs.declared.plan.Trial.{Trial}
 use Rattle.solving.specs.declared.plan.Choice.{Choice}
 use Rattle.solving.specs.declared.plan.Stage.{Stage}
-use Rattle.solving.specs.Plans.{Exact, GrantedAt, Chosen, Tries, Better, Planned, Plans, StageRows, Staged}
+use Rattle.solving.specs.Plans.{Exact, GrantedAt, Chosen, Tries, Better, Planned, Plans, Reopened, Costing, StageRows, Staged, HeardStage}
 
 -- ---- the marks as the run goes on
 
@@ -55,13 +57,53 @@ module _ {T : Table} {n : ℕ} {rep : List ℕ} (w : ClassRow n rep) {ev : Run} 
     makes = λ c a b e m g g′. subst (On builts) e (x .built c .1 (Mark.makes (subst (λ r. Makes (T r) a b) (sym e) m) (x .built a .0 g) (x .built b .0 g′)));
   }
 
-module _ (T : Table) {n : ℕ} {rep : List ℕ} (w : ClassRow n rep) (ev : Run) (p : ℕ) {m : List ℕ} (st : Starts T rep ev p m) {o : Marks} (x : Opened T rep m o) where
-  opened-exact : Exact T rep ev p (o .seen) (o .built)
-  opened-exact = record { seen = x .seen ev p st; built = x .built ev p st; seen-marked = x .seen-marked; built-marked = x .built-marked }
+  -- One may start from the marks of what is seen.
+  exact-starts : Starts T rep ev p seens
+  exact-starts = record { low = λ c h. x .seen c .1 (Mark.learnt h); high = λ c o. at-seen c (x .seen-marked .stand c o) o }
 
-  -- After an MK one may start from what was seen there.
-  starts-open : {t : ℕ} → ev p ≡ some (MK t) → Starts T rep ev (p + 1) (o .seen)
-  starts-open at = starts-same T w ev p (starts-opened T w ev p st x) (λ c e. clash (cc))
+  -- Where nothing is learnt at p they are the marks at the next position.
+  module _ (none : (c : ℕ) → ev p ≡ some (LN c) → ⊥) where
+    learnt-same : (c : ℕ) → Learnt ev (p + 1) c → Learnt ev p c
+    learnt-same c (q, lt, e) = elim (decLt q p) [
+      | yes l ↦ (q, l, e)
+      | no g ↦ (let z : q ≡ p = omega arith in absurd (none c (subst (λ k. ev k ≡ some (LN c)) z e)))
+    ]
+
+    swept-same : Swept T (classAt rep) ev (p + 1) (On seens) (On builts)
+    swept-same =
+        let v = exact-swept in
+        record {
+          learnt = λ c h. v .learnt c (learnt-same c h);
+          opens = v .opens;
+          parts = v .parts;
+          free = v .free;
+          zero = v .zero;
+          had = v .had;
+          makes = v .makes;
+        }
+
+    least : {s : Side} {c : ℕ} → Mark T (classAt rep) ev (p + 1) s c → sideOn (On seens) (On builts) s (classAt rep c)
+    least = mark-least T (classAt rep) ev (p + 1) (w .idem) (On seens) (On builts) swept-same
+
+    exact-same : Exact T rep ev (p + 1) seens builts
+    exact-same = record {
+      seen = λ c. (λ o. mark-later T (classAt rep) ev p (w .idem) (omega arith) (x .seen c .0 o), least);
+      built = λ c. (λ o. mark-later T (classAt rep) ev p (w .idem) (omega arith) (x .built c .0 o), least);
+      seen-marked = x .seen-marked;
+      built-marked = x .built-marked;
+    }
+
+-- Marks that are found, or were.
+pub reopened-found : {T : Table} {rep seens builts : List ℕ} {fresh : Bool} {r : Marks} → fresh ≡ false → Opened T rep seens r → Reopened T rep fresh seens builts r
+reopened-found e o = record {
+  seen-marked = o .seen-marked;
+  built-marked = o .built-marked;
+  exact = λ ev p st _. record { seen = o .seen ev p st; built = o .built ev p st; seen-marked = o .seen-marked; built-marked = o .built-marked };
+}
+
+pub reopened-fresh : {T : Table} {rep seens builts : List ℕ} {fresh : Bool} → fresh ≡ true → Marked rep seens → Marked rep builts →
+    Reopened T rep fresh seens builts (record { seen = seens; built = builts })
+reopened-fresh e u v = record { seen-marked = u; built-marked = v; exact = λ ev p st x. x e }
 
 -- What is to be made stands for its class, and is a cell of the table.
 pub lacking-goal : {n : ℕ} {T : Table} {rep builts : List ℕ} {t : ℕ} → Kept n T rep → (x : ℕ) → t ≡ classAt rep x → x < n → (On builts t → ⊥) → Lacking n rep builts t
@@ -84,7 +126,7 @@ module _ {n : ℕ} {K F S rep : List ℕ} (w : Rows n K F S) (s : Solved n (tabl
   row : ClassRow n rep
   row = kept-row w (s .kept)
 
-  chosen-tries : {o g : Marks} → Exact T rep ev p (o .seen) (o .built) → (On (o .built) (classAt rep (getD cells p 0)) → ⊥) → GrantedAt T rep ev p (g .seen) (g .built) → {x : Trial} →
+  chosen-tries : {o : Marks} {g : Grant} → Exact T rep ev p (o .seen) (o .built) → (On (o .built) (classAt rep (getD cells p 0)) → ⊥) → GrantedAt T rep ev p (g .seen) (g .built) → {x : Trial} →
       Chosen T n rep o g kinds cells p x → Tries T ev rep x
   chosen-tries {o} {g} e lacks h {x} (Chosen.line l b) wf =
       granted-enough T ev (classAt rep) p (May T rep) (On (g .seen)) (On (g .built)) (On (h .need)) (On (h .held)) (On (h .over)) (On (x .want)) (On (x .bare))
@@ -151,45 +193,58 @@ module _ {n : ℕ} {K F S rep : List ℕ} (w : Rows n K F S) (s : Solved n (tabl
   row′ = kept-row w (s .kept)
 
   -- Before the first event.
-  pub staged-none : (ev : Run) (st : Stage) → ((c : ℕ) → On (st .known) c → ⊥) → OwnMarks n rep (st .built) → st .best .ready ≡ true → Staged T′ n ev rep 0 st
-  staged-none ev st none own e = record {
+  pub staged-none : (ev : Run) (st : Stage) → st .fresh ≡ false → ((c : ℕ) → On (st .seen) c → ⊥) → OwnMarks n rep (st .grant .built) → st .best .ready ≡ true → Staged T′ n ev rep 0 st
+  staged-none ev st f none own e = record {
     starts = record { low = λ c (q, lt, i). absurd (omega arith); high = λ c o. absurd (none c o) };
-    heard = heard-none rep ev (st .seen);
-    zero = st .built;
+    exact = λ i. absurd (true≢false (sym i ∙ f));
+    heard = heard-none rep ev (st .grant .seen);
+    zero = st .grant .built;
     own = own;
     kept = λ c o. o;
     planned = planned-none T′ rep ev (st .best) e;
   }
 
   module _ (count p : ℕ) (kinds cells : List ℕ) (at : runAt count kinds cells p ≡ some (MK (getD cells p 0))) {st : Stage} (v : Staged T′ n (runAt count kinds cells) rep p st)
-      {o : Marks} (x : Opened T′ rep (st .known) o) where
+      {o : Marks} (x : Reopened T′ rep (st .fresh) (st .seen) (st .built) o) where
+    abbrev ev′ : Run
+    ev′ = runAt count kinds cells
+
+    -- The marks at p, and at the next position.
+    here : Exact T′ rep ev′ p (o .seen) (o .built)
+    here = x .exact ev′ p (v .starts) (v .exact)
+
+    next : Exact T′ rep ev′ (p + 1) (o .seen) (o .built)
+    next = exact-same row′ here (λ c e. clash (cc))
+
     -- An MK of what is built.
     pub staged-built : On (o .built) (classAt rep (getD cells p 0)) →
-        Staged T′ n (runAt count kinds cells) rep (p + 1) (record { known = o .seen; seen = st .seen; built = st .built; best = st .best })
+        Staged T′ n ev′ rep (p + 1) (record { fresh = true; seen = o .seen; built = o .built; grant = st .grant; best = st .best })
     staged-built b = record {
-      starts = starts-open T′ row′ (runAt count kinds cells) p (v .starts) x at;
-      heard = heard-make rep (runAt count kinds cells) p (getD cells p 0) (st .seen) (v .heard) at;
+      starts = exact-starts row′ next;
+      exact = λ _. next;
+      heard = heard-make rep ev′ p (getD cells p 0) (st .grant .seen) (v .heard) at;
       zero = v .zero;
       own = v .own;
       kept = v .kept;
-      planned = planned-built T′ rep (runAt count kinds cells) p (st .best) (v .planned) (getD cells p 0) at (x .built (runAt count kinds cells) p (v .starts) (getD cells p 0) .0 b);
+      planned = planned-built T′ rep ev′ p (st .best) (v .planned) (getD cells p 0) at (here .built (getD cells p 0) .0 b);
     }
 
     -- An MK of what is not.
-    pub staged-tries : (On (o .built) (classAt rep (getD cells p 0)) → ⊥) → {g : Marks} → Grants T′ n rep kinds cells p (st .seen) (st .built) (g .seen) (g .built) → {y : Trial} →
-        Chosen T′ n rep o g kinds cells p y → {r : Choice} → Better (st .best) y r →
-        Staged T′ n (runAt count kinds cells) rep (p + 1) (record { known = o .seen; seen = g .seen; built = g .built; best = r })
-    staged-tries lacks {g} q {y} c b =
-        let heard = heard-more rep (runAt count kinds cells) p (st .seen) (g .seen) (v .heard) (q .more .seen-kept) in
-        let kept : (d : ℕ) → On (v .zero) d → On (g .built) d = λ d i. q .more .built-kept d (v .kept d i) in
+    pub staged-tries : (On (o .built) (classAt rep (getD cells p 0)) → ⊥) → {g g′ : Grant} → Grants T′ n rep kinds cells p (st .grant .seen) (st .grant .built) (g .seen) (g .built) →
+        {y : Trial} → Chosen T′ n rep o g kinds cells p y → Costing g g′ → {r : Choice} → Better (st .best) y r →
+        Staged T′ n ev′ rep (p + 1) (record { fresh = true; seen = o .seen; built = o .built; grant = g′; best = r })
+    staged-tries lacks {g} {g′} q {y} c i b =
+        let heard = heard-more rep ev′ p (st .grant .seen) (g .seen) (v .heard) (q .more .seen-kept) in
+        let kept : (d : ℕ) → On (v .zero) d → On (g .built) d = λ d j. q .more .built-kept d (v .kept d j) in
         record {
-          starts = starts-open T′ row′ (runAt count kinds cells) p (v .starts) x at;
-          heard = heard-make rep (runAt count kinds cells) p (getD cells p 0) (g .seen) heard at;
+          starts = exact-starts row′ next;
+          exact = λ _. next;
+          heard = subst (λ s. (d : ℕ) → Learnt ev′ (p + 1) d → On s (classAt rep d)) (sym (i .seen)) (heard-make rep ev′ p (getD cells p 0) (g .seen) heard at);
           zero = v .zero;
           own = v .own;
-          kept = kept;
-          planned = planned-tries T′ rep (runAt count kinds cells) p (st .best) (v .planned)
-              (chosen-tries w s count p kinds cells at (opened-exact T′ row′ (runAt count kinds cells) p (v .starts) x) lacks
+          kept = subst (λ s. (d : ℕ) → On (v .zero) d → On s d) (sym (i .built)) kept;
+          planned = planned-tries T′ rep ev′ p (st .best) (v .planned)
+              (chosen-tries w s count p kinds cells at here lacks
               (record {
                 need = q .still .need;
                 held = q .still .tight .held;
@@ -198,15 +253,38 @@ module _ {n : ℕ} {K F S rep : List ℕ} (w : Rows n K F S) (s : Solved n (tabl
               }) c) b;
         }
 
--- An LN.
-pub staged-heard : {n : ℕ} {rep : List ℕ} → ClassRow n rep → {x y z : ℕ} → y ≡ x → z ≡ x → {st : Stage} {k s : List ℕ} → Learns rep (st .known) y k → Learns rep (st .seen) z s →
-    (T : Table) (m : ℕ) (ev : Run) (p : ℕ) → ev p ≡ some (LN x) → Staged T m ev rep p st →
-    Staged T m ev rep (p + 1) (record { known = k; seen = s; built = st .built; best = st .best })
-staged-heard {rep = rep} w {x} {y} {z} i j {st} {k} {s} l l′ T m ev p at v = record {
-  starts = starts-learn T w ev p (v .starts) x at (subst (λ c. Learns rep (st .known) c k) i l);
-  heard = heard-learn rep ev p x z (st .seen) s (v .heard) at j l′;
-  zero = v .zero;
-  own = v .own;
-  kept = v .kept;
-  planned = planned-learn T rep ev p (st .best) (v .planned) x at;
+-- The rows of a stage after an MK.
+pub rows-made : {T : Table} {n : ℕ} {rep kinds cells : List ℕ} {g g′ : Grant} → GrantRows T n rep kinds cells g → Costing g g′ → GrantRows T n rep kinds cells g′
+rows-made {T} {n} {rep} {kinds} {cells} {g} {g′} v i = record {
+  seen-marked = subst (Marked rep) (sym (i .seen)) (v .seen-marked);
+  built-marked = subst (Marked rep) (sym (i .built)) (v .built-marked);
+  still = λ e p. subst (λ s. Still T n rep kinds cells p s (g′ .built)) (sym (i .seen))
+      (subst (λ b. Still T n rep kinds cells p (g .seen) b) (sym (i .built)) (v .still (sym (i .calm) ∙ e) p));
+  bares = λ e. subst (λ s. BareTo T rep s (g′ .built) (g′ .bare) n) (sym (i .seen)) (subst (λ b. BareTo T rep (g .seen) b (g′ .bare) n) (sym (i .built))
+      (subst (λ d. BareTo T rep (g .seen) (g .built) d n) (sym (i .bare)) (v .bares (sym (i .calm) ∙ e))));
 }
+
+-- An LN: the rows, and what is known.
+module _ {rep : List ℕ} {x : ℕ} {st r : Stage} (h : HeardStage rep x st r) where
+  pub rows-heard : {T : Table} {n : ℕ} {kinds cells : List ℕ} → StageRows T n rep kinds cells st → StageRows T n rep kinds cells r
+  rows-heard v = record {
+    seen = h .seen .marked;
+    built = subst (Marked rep) (sym (h .built)) (v .built);
+    grant = record {
+      seen-marked = h .lit .marked;
+      built-marked = subst (Marked rep) (sym (h .had)) (v .grant .built-marked);
+      still = λ e. absurd (true≢false (sym e ∙ h .calm));
+      bares = λ e. absurd (true≢false (sym e ∙ h .calm));
+    };
+  }
+
+  pub staged-heard : {m : ℕ} → ClassRow m rep → (T : Table) (n : ℕ) (ev : Run) (p : ℕ) → ev p ≡ some (LN x) → Staged T n ev rep p st → Staged T n ev rep (p + 1) r
+  staged-heard w T n ev p at v = record {
+    starts = starts-learn T w ev p (v .starts) x at (h .seen);
+    exact = λ e. absurd (true≢false (sym e ∙ h .fresh));
+    heard = heard-learn rep ev p x x (st .grant .seen) (r .grant .seen) (v .heard) at refl (h .lit);
+    zero = v .zero;
+    own = v .own;
+    kept = subst (λ s. (d : ℕ) → On (v .zero) d → On s d) (sym (h .had)) (v .kept);
+    planned = subst (Planned T ev rep (p + 1)) (sym (h .best)) (planned-learn T rep ev p (st .best) (v .planned) x at);
+  }

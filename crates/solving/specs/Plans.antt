@@ -1,25 +1,28 @@
 -- The choice of what is tried at one step: its plan.
 -- Exact: rows that are the marks at a position; GrantedAt: rows that are granted there; Chosen: what is tried at a position; Tries: that it is enough; Better: the better of two;
--- Planned, Plans: what a plan says, of the events before a position and of all; StageRows, Staged: what is known before a position; MadeStage, HeardStage, Stepped: one event more.
+-- Planned, Plans: what a plan says, of the events before a position and of all; Reopened: marks found again; Costing: what is granted with other costs;
+-- StageRows, Staged: what is known before a position; MadeStage, HeardStage, Stepped: one event more.
 use mathlib.Core.Path.{_≡_}
 use mathlib.Core.Logic.{_↔_, _⊎_}
-use mathlib.Core.Bool.{true, false}
+use mathlib.Core.Bool.{Bool, true, false}
 use mathlib.Core.List.{List}
 use mathlib.Core.Option.{some}
 use Prim.Native.Nat.{ℕ, _+_, _<_}
 use lib.ListN.{getD}
-use Rattle.model.specs.Case.{MK, LN, Table, Run, Learnt, WellFormed}
+use Rattle.model.specs.Case.{MK, Table, Run, Learnt, WellFormed}
 use Rattle.model.specs.Stored.{runAt}
 use Rattle.theory.specs.Cells.{classAt, On}
 use Rattle.theory.specs.Level.{Mark, seen, built}
 use Rattle.theory.specs.Cut.{Enough, Granted}
-use Rattle.knowledge.specs.Knowledge.{Marked, Starts}
+use Rattle.knowledge.specs.Knowledge.{Marked, Learns, Starts}
 use Rattle.knowledge.specs.Sweeps.{OwnMarks}
 use Rattle.knowledge.specs.declared.Marks.{Marks}
 use Rattle.wants.specs.Starts.{BareTo}
 use Rattle.wants.specs.Sets.{WantedRow}
 use Rattle.granting.specs.Meets.{May}
 use Rattle.granting.specs.Line.{LineRow}
+use Rattle.granting.specs.Grants.{GrantRows}
+use Rattle.granting.specs.declared.grants.Grant.{Grant}
 use Rattle.solving.specs.declared.plan.Trial.{Trial}
 use Rattle.solving.specs.declared.plan.Choice.{Choice}
 use Rattle.solving.specs.declared.plan.Stage.{Stage}
@@ -39,7 +42,7 @@ pub record GrantedAt (T : Table) (rep : List ℕ) (ev : Run) (p : ℕ) (seens bu
   pub granted : Granted T (classAt rep) ev p (May T rep) (On seens) (On builts) (On need) (On held) (On over)
 
 -- What is tried at the MK at p: a way down through what is not built by the marks g that are granted, or all that may help by the marks o of what is seen and built.
-pub data Chosen (T : Table) (n : ℕ) (rep : List ℕ) (o g : Marks) (kinds cells : List ℕ) (p : ℕ) (x : Trial) : Type 0 where
+pub data Chosen (T : Table) (n : ℕ) (rep : List ℕ) (o : Marks) (g : Grant) (kinds cells : List ℕ) (p : ℕ) (x : Trial) : Type 0 where
   line : LineRow T rep (g .built) (classAt rep (getD cells p 0)) (x .want) → BareTo T rep (g .seen) (g .built) (x .bare) n → Chosen T n rep o g kinds cells p x
   all : WantedRow T rep (o .seen) (o .built) kinds cells p (x .want) → BareTo T rep (o .seen) (o .built) (x .bare) n → Chosen T n rep o g kinds cells p x
 
@@ -62,19 +65,33 @@ pub record Plans (T : Table) (ev : Run) (rep : List ℕ) (pl : Choice) : Type 0 
   pub ready : pl .ready ≡ true → (q t : ℕ) → ev q ≡ some (MK t) → Mark T (classAt rep) ev q built t
   pub tries : pl .ready ≡ false → Tries T ev rep (pl .trial)
 
--- The rows of a stage are rows of marks.
-pub record StageRows (rep : List ℕ) (st : Stage) : Type 0 where
-  pub known : Marked rep (st .known)
+-- The marks r are those at each position at which one may start from the marks seens; if fresh, where the rows seens and builts are the marks.
+pub record Reopened (T : Table) (rep : List ℕ) (fresh : Bool) (seens builts : List ℕ) (r : Marks) : Type 0 where
+  pub seen-marked : Marked rep (r .seen)
+  pub built-marked : Marked rep (r .built)
+  pub exact : (ev : Run) (p : ℕ) → Starts T rep ev p seens → (fresh ≡ true → Exact T rep ev p seens builts) → Exact T rep ev p (r .seen) (r .built)
+
+-- What is granted differs at most in the costs.
+pub record Costing (g r : Grant) : Type 0 where
+  pub calm : r .calm ≡ g .calm
+  pub seen : r .seen ≡ g .seen
+  pub built : r .built ≡ g .built
+  pub bare : r .bare ≡ g .bare
+
+-- The rows of a stage.
+pub record StageRows (T : Table) (n : ℕ) (rep kinds cells : List ℕ) (st : Stage) : Type 0 where
   pub seen : Marked rep (st .seen)
   pub built : Marked rep (st .built)
+  pub grant : GrantRows T n rep kinds cells (st .grant)
 
--- What is known before position p: marks to start from; marks that hold what is learnt, and his own name; a plan of the positions before.
+-- What is known before position p: marks to start from, or, if fresh, the marks; what is granted holds what is learnt, and his own name; a plan of the positions before.
 pub record Staged (T : Table) (n : ℕ) (ev : Run) (rep : List ℕ) (p : ℕ) (st : Stage) : Type 0 where
-  pub starts : Starts T rep ev p (st .known)
-  pub heard : (c : ℕ) → Learnt ev p c → On (st .seen) (classAt rep c)
+  pub starts : Starts T rep ev p (st .seen)
+  pub exact : st .fresh ≡ true → Exact T rep ev p (st .seen) (st .built)
+  pub heard : (c : ℕ) → Learnt ev p c → On (st .grant .seen) (classAt rep c)
   pub zero : List ℕ
   pub own : OwnMarks n rep zero
-  pub kept : (c : ℕ) → On zero c → On (st .built) c
+  pub kept : (c : ℕ) → On zero c → On (st .grant .built) c
   pub planned : Planned T ev rep p (st .best)
 
 -- An MK takes the stage st before p to the stage r after it.
@@ -83,8 +100,14 @@ MadeStage T n rep kinds cells p st r = (count : ℕ) → runAt count kinds cells
     Staged T n (runAt count kinds cells) rep (p + 1) r
 
 -- An LN of the cell x takes st to r.
-abbrev pub HeardStage : List ℕ → ℕ → Stage → Stage → Type 0
-HeardStage rep x st r = (T : Table) (n : ℕ) (ev : Run) (p : ℕ) → ev p ≡ some (LN x) → Staged T n ev rep p st → Staged T n ev rep (p + 1) r
+pub record HeardStage (rep : List ℕ) (x : ℕ) (st r : Stage) : Type 0 where
+  pub seen : Learns rep (st .seen) x (r .seen)
+  pub built : r .built ≡ st .built
+  pub fresh : r .fresh ≡ false
+  pub calm : r .grant .calm ≡ false
+  pub lit : Learns rep (st .grant .seen) x (r .grant .seen)
+  pub had : r .grant .built ≡ st .grant .built
+  pub best : r .best ≡ st .best
 
 -- The event at p takes st to r.
 abbrev pub Stepped : Table → ℕ → List ℕ → List ℕ → List ℕ → ℕ → Stage → Stage → Type 0

@@ -1,6 +1,7 @@
 // The choice of what is tried at one step: a position where what is to be made is not built, and the cells that may have to be made equal there.
 use super::pairs::pairing;
 use classes::clash::clash;
+use granting::grants::Grant;
 use granting::grants::granted;
 use granting::line::line;
 use knowledge::Marks;
@@ -21,8 +22,8 @@ ghost use Rattle.knowledge.specs.Knowledge.{ClassRow, Marked};
 ghost use Rattle.knowledge.specs.Sweeps.{Decides};
 ghost use Rattle.wants.specs.Starts.{BareTo};
 ghost use Rattle.wants.specs.Sets.{WantedRow};
-ghost use Rattle.granting.specs.Line.{Whole, Lacking, LineRow};
-ghost use Rattle.solving.specs.Plans.{Chosen, Better, StageRows, MadeStage, HeardStage, Stepped, Plans};
+ghost use Rattle.granting.specs.Line.{Whole};
+ghost use Rattle.solving.specs.Plans.{Chosen, Better, Reopened, Costing, StageRows, MadeStage, HeardStage, Stepped, Plans};
 
 // Wanted and bare cells, of which pairs are to be tried. How many pairs are live is a guide only.
 pub struct Trial {
@@ -39,11 +40,13 @@ pub struct Choice {
     pub trial: Trial,
 }
 
-// What is known before a position: the marks of what is seen, those of what is granted, and the best plan so far.
+// What is known before a position: the marks of what is seen and built, what is granted, and the best plan so far.
+// Fresh: nothing was learnt since the marks were found; else only those of what is seen are to be started from.
 pub struct Stage {
-    pub known: [u8; 129],
+    pub fresh: bool,
     pub seen: [u8; 129],
     pub built: [u8; 129],
+    pub grant: Grant,
     pub best: Choice,
 }
 
@@ -124,34 +127,6 @@ fn live<'a>(
     k
 }
 
-// A way down from t, which is not built by what is granted, and the cells that are bare by it.
-fn by_line<'a>(
-    kind: &'a [u8; 128],
-    first: &'a [u8; 128],
-    second: &'a [u8; 128],
-    n: usize,
-    rep: &'a [u8; 129],
-    seen: &'a [u8; 129],
-    built: &'a [u8; 129],
-    t: usize,
-) -> Trial
-    requires { ⌜ Rows n (now kind) (now first) (now second) ⌝ }
-    requires { ⌜ Kept n (tableAt (now kind) (now first) (now second)) (now rep) ⌝ }
-    requires { ⌜ Whole (tableAt (now kind) (now first) (now second)) (now rep) (now built) ⌝ }
-    requires { ⌜ Lacking n (now rep) (now built) t ⌝ }
-    ensures want { λ r. ⌜ LineRow (tableAt (now (kind .entry)) (now (first .entry)) (now (second .entry))) (now (rep .entry)) (now (built .entry)) t (r .want) ⌝ }
-    ensures bare { λ r. ⌜ BareTo (tableAt (now (kind .entry)) (now (first .entry)) (now (second .entry))) (now (rep .entry)) (now (seen .entry)) (now (built .entry)) (r .bare) n ⌝ }
-{
-    let bare = bares(kind, first, second, n, rep, seen, built);
-    let l = line(kind, first, second, n, rep, built, &bare, t);
-    let want = l.cells;
-    Trial {
-        pairs: l.pairs,
-        want: want,
-        bare: bare,
-    }
-}
-
 // All cells that may help at the MK at p, and the bare ones.
 fn by_all<'a>(
     kind: &'a [u8; 128],
@@ -183,15 +158,17 @@ fn by_all<'a>(
     }
 }
 
-// What is tried at the MK at p, by the marks o of what is seen and built and the marks g of what is granted.
-fn choose<'a>(
+// What is tried at the MK at p, by the marks o of what is seen and built and what is granted: a way down where what is to be made is not built by it,
+// with the cells that are bare by it; else all that may help.
+fn choose<'a, 'b>(
     kind: &'a [u8; 128],
     first: &'a [u8; 128],
     second: &'a [u8; 128],
     n: usize,
     rep: &'a [u8; 129],
     o: Marks,
-    g: Marks,
+    g: Grant,
+    costs: &'b mut [u8; 129],
     ekind: &'a [u8; 128],
     ecell: &'a [u8; 128],
     p: usize,
@@ -201,12 +178,30 @@ fn choose<'a>(
     requires { ⌜ Marked (now rep) (o .seen) ⌝ }
     requires { ⌜ Marked (now rep) (o .built) ⌝ }
     requires { ⌜ Whole (tableAt (now kind) (now first) (now second)) (now rep) (g .built) ⌝ }
+    requires { ⌜ BareTo (tableAt (now kind) (now first) (now second)) (now rep) (g .seen) (g .built) (g .bare) n ⌝ }
     requires { ⌜ EventRows n (now ecell) (p + 1) ⌝ }
     ensures { λ r. ⌜ Chosen (tableAt (now (kind .entry)) (now (first .entry)) (now (second .entry))) n (now (rep .entry)) o g (now (ekind .entry)) (now (ecell .entry)) p r ⌝ }
 {
     let t = class_of(rep, cell(ecell[p]));
     if g.built[t] != 1 {
-        return by_line(kind, first, second, n, rep, &g.seen, &g.built, t);
+        let l = line(
+            kind,
+            first,
+            second,
+            n,
+            rep,
+            &g.built,
+            &g.bare,
+            &mut *costs,
+            t,
+        );
+        let want = l.cells;
+        let bare = g.bare;
+        return Trial {
+            pairs: l.pairs,
+            want: want,
+            bare: bare,
+        };
     }
     by_all(
         kind,
@@ -258,6 +253,32 @@ fn has<'a>(n: usize, rep: &'a [u8; 129], marks: &'a [u8; 129], x: u8) -> bool
     marks[t] == 1
 }
 
+// The marks of what is seen and built: if fresh, these; else found from those of what is seen.
+fn opened<'a>(
+    kind: &'a [u8; 128],
+    first: &'a [u8; 128],
+    second: &'a [u8; 128],
+    n: usize,
+    rep: &'a [u8; 129],
+    fresh: bool,
+    seen: [u8; 129],
+    built: [u8; 129],
+) -> Marks
+    requires { ⌜ Rows n (now kind) (now first) (now second) ⌝ }
+    requires { ⌜ ClassRow n (now rep) ⌝ }
+    requires { ⌜ Marked (now rep) seen ⌝ }
+    requires { ⌜ Marked (now rep) built ⌝ }
+    ensures { λ r. ⌜ Reopened (tableAt (now (kind .entry)) (now (first .entry)) (now (second .entry))) (now (rep .entry)) fresh seen built r ⌝ }
+{
+    if fresh {
+        return Marks {
+            seen: seen,
+            built: built,
+        };
+    }
+    open_known(kind, first, second, n, rep, seen)
+}
+
 // The stage after the MK at p.
 fn make<'a>(
     kind: &'a [u8; 128],
@@ -274,56 +295,96 @@ fn make<'a>(
     requires { ⌜ Rows n (now kind) (now first) (now second) ⌝ }
     requires { ⌜ Solved n (tableAt (now kind) (now first) (now second)) (now rep) ⌝ }
     requires { ⌜ EventRows n (now ecell) (p + 1) ⌝ }
-    requires { ⌜ StageRows (now rep) st ⌝ }
-    ensures rows { λ r. ⌜ StageRows (now (rep .entry)) r ⌝ }
+    requires { ⌜ StageRows (tableAt (now kind) (now first) (now second)) n (now rep) (now ekind) (now ecell) st ⌝ }
+    ensures rows { λ r. ⌜ StageRows (tableAt (now (kind .entry)) (now (first .entry)) (now (second .entry))) n (now (rep .entry)) (now (ekind .entry)) (now (ecell .entry)) r ⌝ }
     ensures made { λ r. ⌜ MadeStage (tableAt (now (kind .entry)) (now (first .entry)) (now (second .entry))) n (now (rep .entry)) (now (ekind .entry)) (now (ecell .entry)) p st r ⌝ }
 {
-    let known = st.known;
     let seen = st.seen;
     let built = st.built;
+    let grant = st.grant;
     let best = st.best;
-    let o = open_known(kind, first, second, n, rep, known);
-    let more = o.seen;
-    if has(n, rep, &o.built, ecell[p]) {
+    let o = opened(kind, first, second, n, rep, st.fresh, seen, built);
+    let s = o.seen;
+    let b = o.built;
+    if has(n, rep, &b, ecell[p]) {
         return Stage {
-            known: more,
-            seen: seen,
-            built: built,
+            fresh: true,
+            seen: s,
+            built: b,
+            grant: grant,
             best: best,
         };
     }
-    let g = granted(kind, first, second, n, rep, ekind, ecell, p, seen, built);
-    let x = choose(kind, first, second, n, rep, o, g, ekind, ecell, p);
-    let b = better(best, x, p, dead);
-    let s = g.seen;
-    let t = g.built;
+    let g = granted(kind, first, second, n, rep, ekind, ecell, p, grant);
+    let mut costs = g.costs;
+    let x = choose(
+        kind,
+        first,
+        second,
+        n,
+        rep,
+        o,
+        g,
+        &mut costs,
+        ekind,
+        ecell,
+        p,
+    );
     Stage {
-        known: more,
+        fresh: true,
         seen: s,
-        built: t,
-        best: b,
+        built: b,
+        grant: with_costs(g, costs),
+        best: better(best, x, p, dead),
+    }
+}
+
+// What is granted, with other costs.
+fn with_costs(g: Grant, costs: [u8; 129]) -> Grant
+    ensures { λ r. ⌜ Costing g r ⌝ }
+{
+    let seen = g.seen;
+    let built = g.built;
+    let bare = g.bare;
+    Grant {
+        calm: g.calm,
+        seen: seen,
+        built: built,
+        bare: bare,
+        costs: costs,
     }
 }
 
 // The stage after an LN of the cell x.
 fn hear<'a>(n: usize, rep: &'a [u8; 129], x: u8, st: Stage) -> Stage
     requires { ⌜ ClassRow n (now rep) ⌝ }
-    requires { ⌜ StageRows (now rep) st ⌝ }
+    requires { ⌜ Marked (now rep) (st .seen) ⌝ }
+    requires { ⌜ Marked (now rep) (st .grant .seen) ⌝ }
     requires { ⌜ x < n ⌝ }
     requires { ⌜ n ≤ 128 ⌝ }
-    ensures rows { λ r. ⌜ StageRows (now (rep .entry)) r ⌝ }
-    ensures heard { λ r. ⌜ HeardStage (now (rep .entry)) x st r ⌝ }
+    ensures { λ r. ⌜ HeardStage (now (rep .entry)) x st r ⌝ }
 {
-    let known = st.known;
     let seen = st.seen;
     let built = st.built;
     let best = st.best;
-    let k = learn(n, rep, known, cell(x));
-    let s = learn(n, rep, seen, cell(x));
+    let grant = st.grant;
+    let lit = grant.seen;
+    let had = grant.built;
+    let bare = grant.bare;
+    let costs = grant.costs;
+    let k = learn(n, rep, seen, cell(x));
+    let s = learn(n, rep, lit, cell(x));
     Stage {
-        known: k,
-        seen: s,
+        fresh: false,
+        seen: k,
         built: built,
+        grant: Grant {
+            calm: false,
+            seen: s,
+            built: had,
+            bare: bare,
+            costs: costs,
+        },
         best: best,
     }
 }
@@ -344,8 +405,8 @@ fn step<'a>(
     requires { ⌜ Rows n (now kind) (now first) (now second) ⌝ }
     requires { ⌜ Solved n (tableAt (now kind) (now first) (now second)) (now rep) ⌝ }
     requires { ⌜ EventRows n (now ecell) (p + 1) ⌝ }
-    requires { ⌜ StageRows (now rep) st ⌝ }
-    ensures rows { λ r. ⌜ StageRows (now (rep .entry)) r ⌝ }
+    requires { ⌜ StageRows (tableAt (now kind) (now first) (now second)) n (now rep) (now ekind) (now ecell) st ⌝ }
+    ensures rows { λ r. ⌜ StageRows (tableAt (now (kind .entry)) (now (first .entry)) (now (second .entry))) n (now (rep .entry)) (now (ekind .entry)) (now (ecell .entry)) r ⌝ }
     ensures stepped { λ r. ⌜ Stepped (tableAt (now (kind .entry)) (now (first .entry)) (now (second .entry))) n (now (rep .entry)) (now (ekind .entry)) (now (ecell .entry)) p st r ⌝ }
 {
     if ekind[p] != 0 {
@@ -382,18 +443,26 @@ pub fn plan<'a>(
     ensures { λ r. ⌜ Plans (tableAt (now (kind .entry)) (now (first .entry)) (now (second .entry))) (runAt count (now (ekind .entry)) (now (ecell .entry))) (now (rep .entry)) r ⌝ }
 {
     let own = own_marks(n, rep);
+    let none = [0; 129];
     let mut st = Stage {
-        known: [0; 129],
-        seen: [0; 129],
-        built: own,
+        fresh: false,
+        seen: none,
+        built: none,
+        grant: Grant {
+            calm: false,
+            seen: none,
+            built: own,
+            bare: none,
+            costs: [255; 129],
+        },
         best: Choice {
             ready: true,
             at: 0,
             load: 0,
             trial: Trial {
                 pairs: 0,
-                want: [0; 129],
-                bare: [0; 129],
+                want: none,
+                bare: none,
             },
         },
     };

@@ -1,38 +1,45 @@
--- The invariant: the marks are those to start from, and more. Each round that changes something leaves fewer entries without a mark.
-use Prim.Native.Nat.{_+_}
-use borrow.Author.Tests.{not-true, not-false}
-use Rattle.knowledge.specs.Sweeps.{missing}
-use Rattle.granting.specs.Grants.{More}
-use Rattle.granting.proofs.GrantLaws.{more-none, more-more}
+-- If calm, what was granted holds; else it is closed anew.
+use mathlib.Core.Bool.{true≢false}
+use borrow.Author.Needs.{needs}
+use Rattle.knowledge.proofs.ClassRows.{kept-row}
+use Rattle.granting.proofs.GrantLaws.{more-none, calm-still}
 use Rattle.granting.proofs.grants.granted.Statement.{statement}
 use Rattle.granting.proofs.grants.granted.Tie as tie
 
-abbrev Inv-loop : tie.InvT-loop
-Inv-loop kind first second n rep ekind ecell p s₀ b₀ s b = More rep s₀ b₀ s b
-
-abbrev μ-loop : tie.MeasureT-loop
-μ-loop kind first second n rep ekind ecell p s₀ b₀ s b = missing s + missing b
-
-loop-holds : tie.Need-loop-holds Inv-loop μ-loop
-loop-holds c = more-none (c .pre .1 .1 .1 .0) (c .pre .1 .1 .1 .1)
-
-round-requires : tie.Need-round-requires Inv-loop μ-loop
-round-requires c κs = let s = c .before in (s .pre .0, (s .pre .1 .0, (s .pre .1 .1 .0, (c .loop .inv .seen-marked, c .loop .inv .built-marked))))
-
-returns : tie.Need-returns Inv-loop μ-loop
+returns : tie.Need-returns
 returns c =
-    let t = c .before .before .before .before in
-    record { more = more-more (t .before .loop .inv) (t .round .ensures .more); still = t .round .ensures .still (not-true _ (c .if1 .taken)) }
+    let s = c .before in
+    let w = s .pre .1 .1 .1 in
+    (w, (record { more = more-none (w .seen-marked) (w .built-marked); still = w .still (c .if1 .taken) (s .args .p) }, w .bares (c .if1 .taken)))
 
-loop-less : tie.Need-loop-less Inv-loop μ-loop
-loop-less c =
-    let c4 = c .before .before .before .before in
-    c4 .round .ensures .moved (not-false _ (c .if1 .left))
+closed-requires : tie.Need-closed-requires
+closed-requires c κs =
+    let s = c .before .before .before in
+    let w = s .pre .1 .1 .1 in
+    (s .pre .0, (s .pre .1 .0, (s .pre .1 .1 .0, (w .seen-marked, w .built-marked))))
 
-loop-again : tie.Need-loop-again Inv-loop μ-loop
-loop-again c =
-    let t = c .before .before .before .before in more-more (t .before .loop .inv) (t .round .ensures .more)
+bares-requires : tie.Need-bares-requires
+bares-requires c κs =
+    let s = c .before .before .before .before .before .before .before .before in
+    (s .pre .0, kept-row (s .pre .0) (s .pre .1 .0))
+
+is-calm-requires : tie.Need-is-calm-requires
+is-calm-requires c κs = search needs
+
+returns-2 : tie.Need-returns-2
+returns-2 c =
+    let b = c .before .before in
+    let m = b .before .before .before .before .before in
+    let s = m .before .before .before .before in
+    let w = m .closed .ensures in (
+      record {
+        seen-marked = w .more .seen-marked;
+        built-marked = w .more .built-marked;
+        still = λ e. calm-still (s .pre .0) (c .is-calm .ensures e) (w .still);
+        bares = λ _. b .bares .ensures;
+      },
+      (w, b .bares .ensures),
+    )
 
 pub granted-spec : {M : Type 1} → statement M
-granted-spec =
-    tie.close (tie.spec Inv-loop μ-loop loop-holds round-requires returns loop-less loop-again)
+granted-spec = tie.close (tie.spec returns closed-requires bares-requires is-calm-requires returns-2)

@@ -22,16 +22,16 @@ cell-requires c κs = search needs
 class-of-requires : tie.Need-class-of-requires
 class-of-requires c κs =
     let s = c .before .before in
-    omega (arith, c .cell .ensures, s .pre .1 .1 .1 .1 .1 .below (s .args .p) (omega arith), s .pre .0 .few)
+    omega (arith, c .cell .ensures, s .pre .1 .1 .1 .1 .1 .1 .below (s .args .p) (omega arith), s .pre .0 .few)
 
 element-copy-out-if1 : tie.Need-element-copy-out-if1
 element-copy-out-if1 c =
     let s = c .before .before .before in
     omega (arith, c .class-of .ensures, kept-row (s .pre .0) (s .pre .1 .0) .low (c .before .cell .result))
 
-by-line-requires : tie.Need-by-line-requires
-by-line-requires c κs =
-    let i = c .before .before .before in
+line-requires : tie.Need-line-requires
+line-requires c κs =
+    let i = c .before .before .before .before in
     let q = i .before .before in
     let d = q .before in
     let s = d .before .before in
@@ -42,26 +42,27 @@ by-line-requires c κs =
         (
           s .pre .1 .1 .1 .1 .0,
           lacking-goal (s .pre .1 .0) (getD (a .ecell .now) (a .p) 0) (q .class-of .ensures ∙ ap (classAt (a .rep .now)) (d .cell .ensures))
-              (s .pre .1 .1 .1 .1 .1 .below (a .p) (omega arith)) (i .if1 .taken),
+              (s .pre .1 .1 .1 .1 .1 .1 .below (a .p) (omega arith)) (i .if1 .taken),
         ),
       ),
     )
 
 returns : tie.Need-returns
 returns c =
-    let i = c .before .before .before .before in
+    let l = c .before .before in
+    let i = l .before .before .before .before .before in
     let q = i .before .before in
     let d = q .before in
     let s = d .before .before in
     let a = s .args in
     Chosen.line
-    (subst (λ (z : ℕ). LineRow (tableAt (a .kind .now) (a .first .now) (a .second .now)) (a .rep .now) (a .t7 .built) z (c .by-line .result .want))
-    (q .class-of .ensures ∙ ap (classAt (a .rep .now)) (d .cell .ensures)) (c .by-line .ensures .0)) (c .by-line .ensures .1)
+    (subst (λ (z : ℕ). LineRow (tableAt (a .kind .now) (a .first .now) (a .second .now)) (a .rep .now) (a .t7 .built) z (l .line .result .cells))
+    (q .class-of .ensures ∙ ap (classAt (a .rep .now)) (d .cell .ensures)) (l .line .ensures)) (s .pre .1 .1 .1 .1 .1 .0)
 
 by-all-requires : tie.Need-by-all-requires
 by-all-requires c κs =
     let s = c .before .before .before .before .before .before .before .before in
-    (s .pre .0, (s .pre .1 .0, (s .pre .1 .1 .0, (s .pre .1 .1 .1 .0, s .pre .1 .1 .1 .1 .1))))
+    (s .pre .0, (s .pre .1 .0, (s .pre .1 .1 .0, (s .pre .1 .1 .1 .0, s .pre .1 .1 .1 .1 .1 .1))))
 
 returns-2 : tie.Need-returns-2
 returns-2 c = Chosen.all (c .by-all .ensures .0) (c .by-all .ensures .1)
@@ -74,7 +75,7 @@ choose-spec =
     cell-requires
     class-of-requires
     element-copy-out-if1
-    by-line-requires
+    line-requires
     returns
     by-all-requires
     returns-2)

@@ -1,5 +1,6 @@
 -- The invariant: what is known before p.
 use mathlib.Core.Path.{refl, subst}
+use mathlib.Core.Bool.{false≢true}
 use Prim.Native.Nat.{ℕ, _+_, _≤_, _-_}
 use native.Mathlib.Omega.{arith}
 use borrow.Author.Needs.{needs}
@@ -14,7 +15,7 @@ use Rattle.solving.proofs.plan.plan.Tie as tie
 
 abbrev Inv-loop : tie.InvT-loop
 Inv-loop kind first second n rep ekind ecell count dead st₀ p₀ st p =
-    Staged (tableAt kind first second) n (runAt count ekind ecell) rep p st × StageRows rep st × (p ≤ count)
+    Staged (tableAt kind first second) n (runAt count ekind ecell) rep p st × StageRows (tableAt kind first second) n rep ekind ecell st × (p ≤ count)
 
 abbrev μ-loop : tie.MeasureT-loop
 μ-loop kind first second n rep ekind ecell count dead st₀ p₀ st p = count - p
@@ -26,8 +27,12 @@ loop-holds : tie.Need-loop-holds Inv-loop μ-loop
 loop-holds c =
     let s = c .before in
     let a = s .args in (
-      staged-none (s .pre .0) (s .pre .1 .0) (runAt (a .count) (a .ekind .now) (a .ecell .now)) _ none-on (c .own-marks .ensures) refl,
-      record { known = none-marked; seen = none-marked; built = c .own-marks .ensures .marked },
+      staged-none (s .pre .0) (s .pre .1 .0) (runAt (a .count) (a .ekind .now) (a .ecell .now)) _ refl none-on (c .own-marks .ensures) refl,
+      record {
+        seen = none-marked;
+        built = none-marked;
+        grant = record { seen-marked = none-marked; built-marked = c .own-marks .ensures .marked; still = λ e. absurd (false≢true e); bares = λ e. absurd (false≢true e) };
+      },
       omega arith,
     )
 

@@ -4,6 +4,7 @@ use borrow.Author.Needs.{needs}
 use Rattle.model.specs.Stored.{tableAt, runAt}
 use Rattle.model.proofs.Stored.{run-make, run-learn}
 use Rattle.knowledge.proofs.ClassRows.{kept-row}
+use Rattle.solving.proofs.PlanLaws.{rows-heard, staged-heard}
 use Rattle.solving.proofs.plan.step.Statement.{statement}
 use Rattle.solving.proofs.plan.step.Tie as tie
 
@@ -16,15 +17,17 @@ element-copy-out-hear c = search needs
 hear-requires : tie.Need-hear-requires
 hear-requires c κs =
     let s = c .before .before .before in
-    (kept-row (s .pre .0) (s .pre .1 .0 .kept), (s .pre .1 .1 .1, (s .pre .1 .1 .0 .below (s .args .p) (omega arith), s .pre .0 .few)))
+    let v = s .pre .1 .1 .1 in
+    (kept-row (s .pre .0) (s .pre .1 .0 .kept), (v .seen, (v .grant .seen-marked, (s .pre .1 .1 .0 .below (s .args .p) (omega arith), s .pre .0 .few))))
 
 returns : tie.Need-returns
 returns c =
     let i = c .before .before in
-    let a = i .before .before .args in (
-      c .hear .ensures .0,
-      λ count lt v. c .hear .ensures .1 (tableAt (a .kind .now) (a .first .now) (a .second .now)) (a .n) (runAt count (a .ekind .now) (a .ecell .now)) (a .p)
-          (run-learn count (a .ekind .now) (a .ecell .now) (a .p) lt (i .if1 .taken)) v,
+    let s = i .before .before in
+    let a = s .args in (
+      rows-heard (c .hear .ensures) (s .pre .1 .1 .1),
+      λ count lt v. staged-heard (c .hear .ensures) (kept-row (s .pre .0) (s .pre .1 .0 .kept)) (tableAt (a .kind .now) (a .first .now) (a .second .now)) (a .n)
+          (runAt count (a .ekind .now) (a .ecell .now)) (a .p) (run-learn count (a .ekind .now) (a .ecell .now) (a .p) lt (i .if1 .taken)) v,
     )
 
 make-requires : tie.Need-make-requires
