@@ -28,7 +28,7 @@ use Rattle.knowledge.proofs.Closing.{still-swept}
 use Rattle.knowledge.proofs.Start.{starts-none}
 use Rattle.wants.specs.Sets.{NeedRow}
 use Rattle.wants.proofs.SetLaws.{rows-sets}
-use Rattle.granting.specs.Meets.{May, Earns, Granting}
+use Rattle.granting.specs.Meets.{May, Granting}
 use Rattle.granting.specs.Leaks.{Tight, Leaked}
 use Rattle.granting.specs.Grants.{Still, More, Rounded}
 use Rattle.granting.specs.Line.{Whole}

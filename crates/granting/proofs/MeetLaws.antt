@@ -7,7 +7,7 @@ use native.Mathlib.Omega.{arith}
 use lib.ListN.{length, set}
 use borrow.Author.Count.{below-more}
 use Rattle.model.specs.Case.{Table}
-use Rattle.theory.specs.Cells.{classAt, On}
+use Rattle.theory.specs.Cells.{On}
 use Rattle.knowledge.specs.Knowledge.{Marked}
 use Rattle.knowledge.proofs.Grow.{grown-none, grown-mark}
 use Rattle.granting.specs.Meets.{May, Alone, Earns, EarnsTold, Granting}

@@ -3,10 +3,9 @@ use super::meets::kin;
 use classes::clash::clash;
 use knowledge::class_of;
 use wants::starts::ends;
-ghost use mathlib.Core.Path.{_≡_};
-ghost use Prim.Native.Nat.{_≤_, _<_};
+ghost use Prim.Native.Nat.{_<_};
 ghost use Rattle.model.specs.Stored.{tableAt};
-ghost use Rattle.theory.specs.Cells.{Rows, classAt, On};
+ghost use Rattle.theory.specs.Cells.{Rows};
 ghost use Rattle.classes.specs.Kept.{Kept};
 ghost use Rattle.granting.specs.Line.{Whole, Lacking, Below, LineRow};
 

@@ -1,6 +1,5 @@
 -- The marks as the run goes on, what is tried at a step, and the plan of a step.
 use mathlib.Core.Path.{_≡_, refl, sym, _∙_, ap, subst}
-use mathlib.Core.Logic.{inl, inr}
 use mathlib.Core.Bool.{Bool, true, false, true≢false}
 use mathlib.Core.List.{List}
 use mathlib.Core.Option.{some}
@@ -8,20 +7,19 @@ use Prim.Native.Nat.{ℕ, _+_, _<_}
 use native.Mathlib.Omega.{arith}
 use native.Mathlib.Decide.{decLt}
 use lib.ListN.{getD}
-use Rattle.model.specs.Case.{MK, LN, Table, Run, Part, Learnt, WellFormed}
+use Rattle.model.specs.Case.{MK, LN, Table, Run, Part, Learnt}
 use Rattle.model.specs.Stored.{tableAt, runAt}
 use Rattle.model.proofs.Read.{clash}
 use Rattle.model.proofs.Stored.{run-below}
 use Rattle.theory.specs.Cells.{Rows, Makes, classAt, On}
 use Rattle.theory.specs.Level.{Side, Mark, seen, built}
-use Rattle.theory.specs.Cut.{Enough}
 use Rattle.theory.specs.Sweep.{Swept}
 use Rattle.theory.proofs.Cut.{granted-enough, wanting-enough}
 use Rattle.theory.proofs.Rows.{rows-formed}
 use Rattle.theory.proofs.Sweep.{On as sideOn, opening-class, mark-later, mark-least}
 use Rattle.classes.specs.Kept.{Kept, Solved}
 use Rattle.classes.proofs.SolvedLaws.{solved-state}
-use Rattle.knowledge.specs.Knowledge.{ClassRow, Marked, Starts, Learns, Opened}
+use Rattle.knowledge.specs.Knowledge.{ClassRow, Marked, Starts, Opened}
 use Rattle.knowledge.specs.Sweeps.{OwnMarks}
 use Rattle.knowledge.specs.declared.Marks.{Marks}
 use Rattle.knowledge.proofs.ClassRows.{kept-row}

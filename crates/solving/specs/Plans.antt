@@ -3,7 +3,7 @@
 -- Planned, Plans: what a plan says, of the events before a position and of all; Reopened: marks found again; Costing: what is granted with other costs;
 -- StageRows, Staged: what is known before a position; MadeStage, HeardStage, Stepped: one event more.
 use mathlib.Core.Path.{_≡_}
-use mathlib.Core.Logic.{_↔_, _⊎_}
+use mathlib.Core.Logic.{_↔_}
 use mathlib.Core.Bool.{Bool, true, false}
 use mathlib.Core.List.{List}
 use mathlib.Core.Option.{some}

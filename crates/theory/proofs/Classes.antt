@@ -5,7 +5,6 @@ use Prim.Native.Nat.{ℕ, zero, suc, _≤_, _<_}
 use native.Mathlib.Omega.{arith}
 use Rattle.model.specs.Message.{Message}
 use Rattle.model.specs.Case.{Cell, AT, VA, ONE, TWO, Table, look, Reads, shown, Part, in-arg, in-left, in-right, Lower}
-use Rattle.theory.specs.Cells.{Makes}
 use Rattle.theory.specs.Classes.{twos, atoms, Likes, ones, Alike, Closed, Sat, Joins, Ranked}
 use Rattle.model.proofs.Steps.{size, held-size}
 use Rattle.model.proofs.Read.{strong, clash, var?, look-same, look-is, part-held}
@@ -24,10 +23,6 @@ pub part-alike : {A : Type 0} {f g : ℕ → A} {k k′ : Cell} {d : ℕ} → Li
 part-alike (ones e) in-arg = (_, in-arg, e)
 part-alike (twos e i) in-left = (_, in-left, e)
 part-alike (twos e i) in-right = (_, in-right, i)
-
-pub makes-alike : {A : Type 0} {f g : ℕ → A} {k k′ : Cell} {i j : ℕ} → Likes f g k k′ → Makes k′ i j → (i′ : ℕ) × (j′ : ℕ) × Makes k i′ j′ × (f i′ ≡ g i) × (f j′ ≡ g j)
-makes-alike (ones e) (Makes.ones s) = (_, _, Makes.ones s, e, e)
-makes-alike (twos e i) Makes.twos = (_, _, Makes.twos, e, i)
 
 pub alike-sym : {A : Type 0} {f g : ℕ → A} {k k′ : Cell} → Likes f g k k′ → Likes g f k′ k
 alike-sym atoms = atoms

@@ -8,7 +8,7 @@ use Rattle.model.specs.Message.{Two, Pair, Seal, Message, Made, Built}
 use Rattle.model.specs.Case.{Cell, VA, TWO, MK, LN, Table, Run, look, Reads, Part, in-arg, in-left, Within, Lower, Known, Makable, WellFormed}
 use Rattle.theory.specs.Cells.{Opening, Formed}
 use Rattle.theory.specs.Classes.{Closed, Sat}
-use Rattle.theory.specs.Level.{Shut, Kin, built, seen, Side, Mark, Occ}
+use Rattle.theory.specs.Level.{Shut, Kin, built, Side, Mark, Occ}
 use Rattle.model.proofs.Steps.{Own, own-built}
 use Rattle.model.proofs.Read.{strong, var?}
 use Rattle.theory.proofs.Parts.{look-made, Keys}

@@ -1,5 +1,5 @@
 -- Beyond the table's cells all show his own name, so that the twin of the first of them is the twin of all; else it is looked for.
-use mathlib.Core.Path.{_≡_, sym, _∙_, subst}
+use mathlib.Core.Path.{sym, _∙_, subst}
 use Prim.Native.Nat.{_<_}
 use native.Mathlib.Omega.{arith}
 use borrow.Author.Needs.{needs}

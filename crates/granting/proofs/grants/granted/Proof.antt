@@ -1,5 +1,4 @@
 -- If calm, what was granted holds; else it is closed anew.
-use mathlib.Core.Bool.{true≢false}
 use borrow.Author.Needs.{needs}
 use Rattle.knowledge.proofs.ClassRows.{kept-row}
 use Rattle.granting.proofs.GrantLaws.{more-none, calm-still}

@@ -1,7 +1,6 @@
 -- The mark of the class says it.
 use mathlib.Core.Path.{sym, _∙_, ap, subst}
 use native.Mathlib.Omega.{arith}
-use borrow.Author.Tests.{eqb-true, eqb-false}
 use borrow.Author.Needs.{needs}
 use Rattle.theory.specs.Cells.{classAt, On}
 use Rattle.knowledge.proofs.ByKind.{decides-eqb, decides-iff}

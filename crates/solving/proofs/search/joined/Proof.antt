@@ -1,6 +1,5 @@
 -- Cells that clash or cannot be unified are never equal; else the classes are joined and closed upwards.
-use mathlib.Core.Path.{_≡_, refl}
-use mathlib.Core.Bool.{true}
+use mathlib.Core.Path.{refl}
 use borrow.Author.Tests.{not-false}
 use borrow.Author.Needs.{needs}
 use Rattle.model.specs.Stored.{tableAt}
