@@ -1,43 +1,93 @@
 #!/usr/bin/env bash
-# Where the instructions of the library's run go: one line for each family, for its middle case by instructions. Needs valgrind, whose callgrind
-# counts the same on every run, and the harness built over the library (README.md). A minute in all, nearly all of it `colour`.
-#   ./profile.sh [FAMILY...]
+# Where the instructions of the library's run go, one line for each family: of its middle case by instructions, or with --sums of all its cases
+# together. Needs valgrind, whose callgrind counts the same on every run, and the harness built over the library (README.md). callgrind takes about
+# 50 times as long as the run itself; a case that takes it more than the limit is left out and named at the end. Without FAMILY: all families.
+#   ./profile.sh [--sums] [--limit SECONDS (60)] [FAMILY...]
 set -euo pipefail
 cd "$(dirname "$0")"
-[ $# -gt 0 ] || set -- tower gen-planted-4 gen-planted-8 gen-random-65 nssk otway yahalom colour
+sums=no limit=60
+while [[ "${1:-}" == --* ]]; do
+    case "$1" in
+        --sums) sums=yes ;;
+        --limit) limit=$2; shift ;;
+        *) echo "$1: not understood" >&2; exit 2 ;;
+    esac
+    shift
+done
+[ $# -gt 0 ] || set -- ""
 for name in prismfleece_run casefile::read_case classes::start classes::settle solving::search::search; do
     grep -qaF "$name" target/release/bench || { echo "target/release/bench has no function $name of its own: build it over libdesk.a" >&2; exit 1; }
 done
 work=$(mktemp -d)
 trap 'rm -rf "$work"' EXIT
 
-# One dump of callgrind, of one call of prismfleece_run: first its instructions, then its part of a line of the table.
-shares() {
+# One call of prismfleece_run as callgrind saw it: instructions, those for reading, twins, search and copying, search steps, unifications.
+counts() {
     awk '
         /^summary:/ { whole = $2 }
-        /^fn=/ { from = substr($0, 4) }
+        /^fn=/ { from = substr($0, 4); sub(/\x27.*/, "", from) }
         /^cfn=/ { to = substr($0, 5); sub(/\x27.*/, "", to) }
-        /^calls=/ { split($1, count, "="); calls[to] += count[2]; getline; below[from, to] += $2; next }
+        /^calls=/ { split($1, count, "="); calls[to] += count[2]; getline; if (from != to) below[to] += $2; next }
         /^[0-9+*-]/ { if (from ~ /memcpy/) copying += $2 }
-        function share(part) { return sprintf("%.0f %%", 100 * part / whole) }
         END {
-            run = "prismfleece_run"; search = "solving::search::search"
-            reading = below[run, "casefile::read_case"]; twins = below[run, "classes::start"]; searching = below[run, search]
-            early = whole - reading - twins - searching
-            printf "%.0f %.0f | %s | %s | %s | %s | %s | %d | %d |\n", whole, whole / 1000, share(reading), share(twins),
-                share(early), share(searching), share(copying), calls[search], calls["classes::settle"]
+            search = "solving::search::search"
+            printf "%.0f %.0f %.0f %.0f %.0f %d %d", whole, below["casefile::read_case"], below["classes::start"], below[search], copying,
+                calls[search], calls["classes::settle"]
         }' "$1"
 }
 
-echo "| family | middle case | thousand instructions | reading | twins | early no | search | copying, in all four | search steps | unifications |"
-echo "|---|---|---|---|---|---|---|---|---|---|"
-for family; do
-    valgrind -q --tool=callgrind --toggle-collect=prismfleece_run --dump-after=prismfleece_run --compress-strings=no \
-        --callgrind-out-file="$work/$family" ./target/release/bench --only once --family "$family" >"$work/names"
-    number=0
-    while read -r name; do
-        number=$((number + 1))
-        shares "$work/$family.$number" | sed "s/ / | $family | $name | /"
-    done <"$work/names" >"$work/lines"
-    sort -n "$work/lines" | sed -n "$((number / 2 + 1))s/^[0-9]* //p"
+# Of each case of a family: its counts and its name.
+family() {
+    while read -r _ bytes name; do
+        status=0
+        timeout "$limit" valgrind -q --tool=callgrind --toggle-collect=prismfleece_run --compress-strings=no \
+            --callgrind-out-file="$work/calls" ./target/release/bench --once "$bytes" || status=$?
+        case $status in
+            0) echo "$(counts "$work/calls") $name" ;;
+            124) echo "$name" >>"$work/left out" ;;
+            *) echo "$name: callgrind ends with status $status" >&2; exit 1 ;;
+        esac
+    done < <(grep "^$1 " "$work/cases")
+}
+
+# The line of a family for its middle case; nothing if it has none.
+middle() {
+    sort -n | awk -v family="$1" '
+        { line[NR] = $0 }
+        function share(part) { return sprintf("%.0f %%", 100 * part / whole) }
+        END {
+            if (NR == 0) exit
+            name = line[int(NR / 2) + 1]
+            split(name, n, " "); whole = n[1]
+            for (i = 0; i < 7; i++) sub(/^[0-9]+ /, "", name)
+            printf "| %s | %s | %.0f | %s | %s | %s | %s | %d | %d |\n", family, name, whole / 1000, share(n[2]), share(n[3]), share(n[4]),
+                share(n[5]), n[6], n[7]
+        }'
+}
+
+# The line of a family for all its cases together.
+together() {
+    awk -v family="$1" '
+        { whole += $1; steps += $6; unifications += $7 }
+        END { printf "| %s | %d | %.0f | %d | %d |\n", family, NR, whole / 1000, steps, unifications }'
+}
+
+for wanted; do
+    ./target/release/bench --only list ${wanted:+--family "$wanted"}
+done >"$work/cases"
+if [ "$sums" = yes ]; then
+    echo "| family | cases | thousand instructions | search steps | unifications |"
+    echo "|---|---|---|---|---|"
+    line=together
+else
+    echo "| family | middle case | thousand instructions | reading | twins | search | copying, in all three | search steps | unifications |"
+    echo "|---|---|---|---|---|---|---|---|---|"
+    line=middle
+fi
+for name in $(cut -d ' ' -f 1 "$work/cases" | uniq); do
+    family "$name" | "$line" "$name"
 done
+if [ -e "$work/left out" ]; then
+    echo
+    echo "Left out, more than $limit s under callgrind: $(paste -s -d ' ' "$work/left out")."
+fi

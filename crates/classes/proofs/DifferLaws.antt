@@ -10,6 +10,7 @@ use Rattle.model.specs.Case.{Cell, AT, ONE, TWO}
 use Rattle.model.specs.Stored.{cellAt, tableAt}
 use Rattle.model.specs.Reduce.{kind}
 use Rattle.model.proofs.Finite.{eq?}
+use Rattle.theory.specs.Cells.{Rows}
 use Rattle.theory.specs.Classes.{Alike, atoms, ones, twos}
 use Rattle.theory.proofs.Classes.{alike-parts}
 use Rattle.classes.specs.declared.Diff.{Diff}
@@ -32,7 +33,7 @@ told-apart cls k k′ Same t ne h = ne refl
 told-apart cls k k′ Clash t ne h = t (alike-any h)
 told-apart cls k k′ (Parts x y) t ne h = t .1 (facing-same (t .0) h)
 
-alike-kind : {A : Type 0} {f : ℕ → A} {k k′ : Cell} → Alike f k k′ → kind k ≡ kind k′
+pub alike-kind : {A : Type 0} {f : ℕ → A} {k k′ : Cell} → Alike f k k′ → kind k ≡ kind k′
 alike-kind atoms = refl
 alike-kind (ones e) = refl
 alike-kind (twos e i) = refl
@@ -44,6 +45,10 @@ kind-cell (suc (suc zero)) a b h = refl
 kind-cell (suc (suc (suc zero))) a b h = refl
 kind-cell (suc (suc (suc (suc zero)))) a b h = refl
 kind-cell (suc (suc (suc (suc (suc k))))) a b h = absurd (omega arith)
+
+-- The kind of a cell of the table is its byte of the row of kinds.
+pub kind-row : {n : ℕ} {K F S : List ℕ} → Rows n K F S → (c : ℕ) → kind (tableAt K F S c) ≡ getD K c 0
+kind-row {n} {K} {F} {S} w c = kind-cell (getD K c 0) (getD F c 0) (getD S c 0) (w .known c)
 
 -- Two kinds.
 pub told-kinds : (cls : ℕ → ℕ) (k k′ a b x y : ℕ) → k ≤ 4 → k′ ≤ 4 → (k ≡ k′ → ⊥) → Told cls (cellAt k a b) (cellAt k′ x y) Clash

@@ -7,5 +7,7 @@ pub mod TwinLaws
 pub mod SolvedLaws
 pub mod SettleLaws
 pub mod PeelLaws
+pub mod KeyLaws
+pub mod LinkLaws
 pub mod UpwardLaws
 pub mod ClashLaws

@@ -3,14 +3,16 @@ use mathlib.Core.Path.{_≡_, refl, sym, _∙_, ap, subst}
 use mathlib.Core.Bool.{Bool, true, false, cond, true≢false}
 use mathlib.Core.List.{List}
 use mathlib.Core.Logic.{inl, inr}
-use Prim.Native.Nat.{ℕ, _+_, _<_}
+use Prim.Native.Nat.{ℕ, _+_, _≤_, _<_}
 use native.Mathlib.Omega.{arith}
 use native.Mathlib.Decide.{decLt}
 use lib.Dec.{eqb}
+use lib.ListN.{getD, set}
 use borrow.Author.Count.{below-more}
 use borrow.Author.Tests.{eq-eqb, ne-eqb}
-use Rattle.model.specs.Message.{Message, atom}
-use Rattle.model.specs.Case.{Cell, AT, VA, Table, Reads}
+use Rattle.model.specs.Message.{App, Pair, Seal, Message, atom}
+use Rattle.model.specs.Case.{Cell, AT, VA, ONE, TWO, Table, Reads}
+use Rattle.model.specs.Reduce.{kind}
 use Rattle.model.specs.Stored.{tableAt}
 use Rattle.model.proofs.Finite.{eq?}
 use Rattle.model.proofs.Steps.{size}
@@ -19,10 +21,11 @@ use Rattle.theory.specs.Classes.{Alike, atoms, Closed, Sat}
 use Rattle.theory.proofs.Classes.{alike-parts, alike-sym, alike-solid, alike-look, reads-ranked}
 use Rattle.theory.proofs.Level.{class-reads}
 use Rattle.theory.proofs.Rows.{rows-beyond}
-use Rattle.classes.specs.Kept.{Finite, Solved, Joined}
-use Rattle.classes.specs.declared.upward.Lifted.{Lifted}
+use Rattle.classes.specs.Kept.{Kept, Finite, Solved, Joined}
 use Rattle.classes.specs.Settle.{Moved}
+use Rattle.classes.specs.Links.{keyOf, Linkable, Linked, Downward}
 use Rattle.classes.specs.Upward.{Fellow, Met, Meets, Lifts}
+use Rattle.classes.proofs.LinkLaws.{down-skip, down-more, linked-none, linked-skip, linked-more, linked-leads}
 use Rattle.classes.proofs.TwinLaws.{alike-trans, alike-self}
 use Rattle.classes.proofs.SolvedLaws.{solved-met}
 use Rattle.classes.proofs.SettleLaws.{moved-none, moved-join, moved-more, moved-stay}
@@ -104,44 +107,99 @@ module _ (n : ℕ) (T : Table) (rep out : List ℕ) (a b : ℕ) (w : Solved n T 
   alike-join : (classAt rep a ≡ classAt rep b → ⊥) → Moved T (Solved n T) rep out true
   alike-join ne = moved-join j (record { kept = j .kept; closed = closed; finite = finite }) ne equal
 
--- The cell c is left, or joined with its fellow t.
-module _ {n : ℕ} {T : Table} {rep : List ℕ} {c : ℕ} (w : Solved n T rep) where
-  pub meets-stay : Met T (classAt rep) c → Meets n T rep c (record { changed = false; rep = rep })
-  meets-stay met = record { moved = moved-none rep w; met = λ _. met }
-
-  pub meets-none : {t : ℕ} → Fellow T (classAt rep) c t → t ≡ c → Meets n T rep c (record { changed = false; rep = rep })
-  meets-none f e = meets-stay (λ _ d h. f .miss d (omega arith))
-
-  pub meets-join : {t : ℕ} {out : List ℕ} → Fellow T (classAt rep) c t → classAt rep c ≡ c → (t ≡ c → ⊥) → Joined n T rep t c out →
-      Meets n T rep c (record { changed = true; rep = out })
-  meets-join {t} {out} f own ne j =
-      let h : t < c = omega (arith, f .low) in
-      record {
-        moved = alike-join n T rep out t c w (alike-sym (f .hit h)) j (λ e. ne (sym (f .stands h) ∙ e ∙ own));
-        met = λ e. absurd (true≢false e);
-      }
-
--- ---- sweeps
-
-module _ {n : ℕ} {T : Table} {rep : List ℕ} where
-  pub lifts-none : Solved n T rep → Lifts n T rep 0 rep false
-  lifts-none w = record { moved = moved-none rep w; met = λ _ c h. absurd (omega arith) }
-
-  module _ {out : List ℕ} {old : Bool} {c : ℕ} (v : Lifts n T rep c out old) {r : Lifted} (w : Meets n T out c r) where
-    pub lifts-more : r .changed ≡ true → Lifts n T rep (c + 1) (r .rep) true
-    lifts-more e = record { moved = moved-more (v .moved) (w .moved) e; met = λ i. absurd (true≢false i) }
-
-    pub lifts-stay : r .changed ≡ false → Lifts n T rep (c + 1) (r .rep) old
-    lifts-stay e =
-        record {
-          moved = moved-stay (v .moved) (w .moved) e;
-          met = λ i. below-more (Met T (classAt rep)) c (v .met i) (subst (λ (l : List ℕ). Met T (classAt l) c) (v .moved .still i) (w .met e));
-        }
-
--- ---- nothing is left to join
+-- ---- cells without parts
 
 name-alike : {f : ℕ → ℕ} {p : ℕ} {k : Cell} → Alike f (AT p) k → k ≡ AT p
 name-alike atoms = refl
+
+-- Names of one name are of one class, and a variable is alike nothing.
+met-cell : {n : ℕ} {T : Table} {rep : List ℕ} → Kept n T rep → (c : ℕ) (k : Cell) → T c ≡ k → kind k < 2 → Met T (classAt rep) c
+met-cell {n} {T} {rep} w c (AT p) e h = λ own d l own′ a.
+    let same = w .names c d p e (name-alike (subst (λ z. Alike (classAt rep) z (T d)) e a)) in
+    omega arith
+met-cell {n} {T} {rep} w c VA e h = λ own d l own′ a. elim (subst (λ z. Alike (classAt rep) z (T d)) e a) [ ]
+met-cell w c (ONE (App f) b) e h = absurd (omega arith)
+met-cell w c (TWO Pair l r) e h = absurd (omega arith)
+met-cell w c (TWO Seal l r) e h = absurd (omega arith)
+
+-- ---- one cell
+
+module _ {n : ℕ} {T : Table} {rep tops links : List ℕ} {c : ℕ} (w : Solved n T rep) (v : Downward c tops links) where
+  -- It is left.
+  meets-stay : Met T (classAt rep) c → (Linkable T (classAt rep) c → ⊥) → Meets n T c rep tops links rep tops links false
+  meets-stay met bar = record { moved = moved-none rep w; down = down-skip v; met = λ _ l. (met, linked-skip l bar) }
+
+  pub meets-plain : kind (T c) < 2 → Meets n T c rep tops links rep tops links false
+  meets-plain h = meets-stay (met-cell (w .kept) c (T c) refl h) (λ l. omega (arith, l .1))
+
+  pub meets-under : (classAt rep c ≡ c → ⊥) → Meets n T c rep tops links rep tops links false
+  meets-under ne = meets-stay (λ e. absurd (ne e)) (λ l. ne (l .0))
+
+  -- It is linked, or joined with its fellow t.
+  module _ (k : ℕ) {t : ℕ} (f : Fellow T (classAt rep) links (getD tops k 0) c t) (own : classAt rep c ≡ c) where
+    pub meets-link : k ≡ keyOf (classAt rep) (T c) → 2 ≤ kind (T c) → k < 256 → c < 129 → t ≡ c →
+        Meets n T c rep tops links rep (set tops k (c + 1)) (set links c (getD tops k 0)) false
+    meets-link e parts hk hc i =
+        record {
+          moved = moved-none rep w;
+          down = down-more v k hk hc;
+          met = λ _ l. (
+            λ _ d h. f .miss (linked-leads l (own, parts) e) d (omega arith),
+            linked-more l (own, parts) e (omega (arith, v .bytes)) (omega (arith, v .long)),
+          );
+        }
+
+    pub meets-join : {out : List ℕ} → (t ≡ c → ⊥) → Joined n T rep t c out → Meets n T c rep tops links out tops links true
+    meets-join {out} ne j =
+        let h : t < c = omega (arith, f .low) in
+        record {
+          moved = alike-join n T rep out t c w (alike-sym (f .hit h)) j (λ e. ne (sym (f .stands h) ∙ e ∙ own));
+          down = down-skip v;
+          met = λ e. absurd (true≢false e);
+        }
+
+-- ---- sweeps
+
+-- A sweep over the cells below c, with links that are right as long as nothing changed.
+pub record Lifting (n : ℕ) (T : Table) (rep : List ℕ) (c : ℕ) (out tops links : List ℕ) (changed : Bool) : Type 0 where
+  pub lifts : Lifts n T rep c out changed
+  pub down : Downward c tops links
+  pub linked : changed ≡ false → Linked T (classAt rep) c tops links
+
+module _ {n : ℕ} {T : Table} {rep : List ℕ} where
+  pub lifting-none : Solved n T rep → {tops links : List ℕ} → Downward 0 tops links → Lifting n T rep 0 rep tops links false
+  lifting-none w v =
+      record { lifts = record { moved = moved-none rep w; met = λ _ c h. absurd (omega arith) }; down = v; linked = λ _. linked-none v }
+
+  module _ {c : ℕ} {out tops links out′ tops′ links′ : List ℕ} {old new : Bool} (v : Lifting n T rep c out tops links old)
+      (w : Meets n T c out tops links out′ tops′ links′ new) where
+    pub lifting-more : new ≡ true → Lifting n T rep (c + 1) out′ tops′ links′ true
+    lifting-more e =
+        record {
+          lifts = record { moved = moved-more (v .lifts .moved) (w .moved) e; met = λ i. absurd (true≢false i) };
+          down = w .down;
+          linked = λ i. absurd (true≢false i);
+        }
+
+    module _ (e : new ≡ false) where
+      still : old ≡ false → Met T (classAt rep) c × Linked T (classAt rep) (c + 1) tops′ links′
+      still i =
+          let same : out ≡ rep = v .lifts .moved .still i in
+          subst (λ (l : List ℕ). Met T (classAt l) c × Linked T (classAt l) (c + 1) tops′ links′) same
+          (w .met e (subst (λ (l : List ℕ). Linked T (classAt l) c tops links) (sym same) (v .linked i)))
+
+      pub lifting-stay : Lifting n T rep (c + 1) out′ tops′ links′ old
+      lifting-stay =
+          record {
+            lifts = record {
+              moved = moved-stay (v .lifts .moved) (w .moved) e;
+              met = λ i. below-more (Met T (classAt rep)) c (v .lifts .met i) (still i .0);
+            };
+            down = w .down;
+            linked = λ i. still i .1;
+          }
+
+-- ---- nothing is left to join
 
 module _ {n : ℕ} {kinds firsts seconds rep : List ℕ} (w : Rows n kinds firsts seconds) (v : Solved n (tableAt kinds firsts seconds) rep)
     (met : (c : ℕ) → c < n → Met (tableAt kinds firsts seconds) (classAt rep) c) where

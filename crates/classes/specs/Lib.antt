@@ -3,5 +3,6 @@ pub mod Differ
 pub mod Twins
 pub mod Settle
 pub mod Peel
+pub mod Links
 pub mod Upward
 pub mod Clash

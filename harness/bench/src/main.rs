@@ -15,15 +15,16 @@ const HELP: &str = "\
 bench: the library's run beside the lazy intruder, as published and with shortcuts, and its other questions by size.
 
   --cases FOLDER      folder of *.case files (cases, else harness/cases)
-  --family NAME       only families whose name begins so
+  --family NAME       only that family, or those whose name begins with NAME and '-'
   --each N            generated cases per family (15)
   --seed S            seed of the generated cases (1)
   --library-limit MS  time for one run of the library (10000)
   --lazy-limit MS     time for one run of the lazy intruder (2000)
   --only runs|growth  one of the two tables
-  --only once         no table: each run asked once, for profile.sh
+  --only list         no table: family, bytes and name of each case, for profile.sh
+  --once BYTES        one run asked once, for profile.sh
 
-Exit status: 0, or 1 if two ways of solving disagree, 2 for a flag not understood.";
+Exit status: 0, or 1 if two ways of solving disagree or one with the last word of the case's name, 2 for a flag not understood.";
 
 pub struct Options {
     pub cases: String,
@@ -33,12 +34,14 @@ pub struct Options {
     pub limits: Limits,
     only: String,
     measure: Option<Vec<u8>>,
+    once: Option<Vec<u8>>,
 }
 
 fn options() -> Result<Options, String> {
     let here = if std::path::Path::new("cases").is_dir() { "cases" } else { "harness/cases" };
     let limits = Limits { library: Duration::from_secs(10), lazy: Duration::from_secs(2) };
-    let mut options = Options { cases: here.into(), family: String::new(), each: 15, seed: 1, limits, only: String::new(), measure: None };
+    let (family, only) = (String::new(), String::new());
+    let mut options = Options { cases: here.into(), family, each: 15, seed: 1, limits, only, measure: None, once: None };
     let mut args = std::env::args().skip(1);
     while let Some(flag) = args.next() {
         let value = args.next().ok_or(HELP)?;
@@ -50,8 +53,9 @@ fn options() -> Result<Options, String> {
             "--seed" => options.seed = number()?,
             "--library-limit" => options.limits.library = Duration::from_millis(number()?),
             "--lazy-limit" => options.limits.lazy = Duration::from_millis(number()?),
-            "--only" if ["runs", "growth", "once"].contains(&value.as_str()) => options.only = value,
+            "--only" if ["runs", "growth", "list"].contains(&value.as_str()) => options.only = value,
             "--measure" => options.measure = Some(bytes(&value)?),
+            "--once" => options.once = Some(bytes(&value)?),
             _ => return Err(format!("{flag} {value}: not understood\n\n{HELP}")),
         }
     }
@@ -59,7 +63,7 @@ fn options() -> Result<Options, String> {
 }
 
 fn bytes(hex: &str) -> Result<Vec<u8>, String> {
-    let byte = |i: usize| hex.get(i..i + 2).and_then(|h| u8::from_str_radix(h, 16).ok()).ok_or("--measure: bad hexadecimal".to_string());
+    let byte = |i: usize| hex.get(i..i + 2).and_then(|h| u8::from_str_radix(h, 16).ok()).ok_or("bad hexadecimal".to_string());
     (0..hex.len()).step_by(2).map(byte).collect()
 }
 
@@ -74,8 +78,12 @@ fn main() -> ExitCode {
     if let Some(file) = &options.measure {
         measure::inside(file, options.limits);
     }
-    if options.only == "once" {
-        runs::once(&options);
+    if let Some(file) = &options.once {
+        library::run(file, &mut [0; 128]);
+        return ExitCode::SUCCESS;
+    }
+    if options.only == "list" {
+        runs::list(&options);
         return ExitCode::SUCCESS;
     }
     if !library::LINKED {

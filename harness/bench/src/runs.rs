@@ -4,6 +4,7 @@ use std::time::Duration;
 
 use generator::chance::Chance;
 use generator::families;
+use generator::text::hex;
 use reference::casefile::read;
 
 use crate::clock::{median, shown};
@@ -42,8 +43,8 @@ fn families(options: &Options) -> Vec<Family> {
             files: (0..options.each * 2).filter(accepted).take(options.each as usize).map(file).collect(),
         });
     }
-    families.retain(|family| family.name.starts_with(&options.family));
-    for name in families::HARD.into_iter().filter(|name| name.starts_with(&options.family)) {
+    families.retain(|family| asked(options, &family.name));
+    for name in families::HARD.into_iter().filter(|name| asked(options, name)) {
         let cases = families::hard(name, options.seed, options.each as usize);
         let files = cases.iter().enumerate().map(|(n, case)| (format!("{name} {n}"), case.bytes())).collect();
         families.push(Family { name: name.to_string(), files });
@@ -51,13 +52,26 @@ fn families(options: &Options) -> Vec<Family> {
     families
 }
 
-/// Asks the library for the run of each case once, for a profiler.
-pub fn once(options: &Options) {
-    let mut out = [0u8; 128];
-    for (name, file) in families(options).iter().flat_map(|family| &family.files) {
-        println!("{name}");
-        library::run(file, &mut out);
+/// Whether a family is asked for: all are if none is named.
+fn asked(options: &Options, name: &str) -> bool {
+    let rest = name.strip_prefix(&options.family);
+    options.family.is_empty() || rest.is_some_and(|rest| rest.is_empty() || rest.starts_with('-'))
+}
+
+/// Prints family, bytes and name of each case.
+pub fn list(options: &Options) {
+    for family in families(options) {
+        for (name, file) in &family.files {
+            println!("{} {} {name}", family.name, hex(file));
+        }
     }
+}
+
+/// Whether all finished ways of solving give one reply, and that of the name if its last word is one.
+fn agreed(name: &str, case: &Case) -> bool {
+    let told = name.rsplit('-').next().filter(|word| ["yes", "no"].contains(word));
+    let replies: Vec<&str> = told.into_iter().chain(case.iter().map(|d| d.reply.as_str())).filter(|&r| r != "unfinished").collect();
+    replies.iter().all(|reply| *reply == replies[0] && ["yes", "no"].contains(reply))
 }
 
 /// Median of one way over the cases of a family; unfinished ones count as their limit.
@@ -87,7 +101,7 @@ fn medians(cases: &[Case], way: usize) -> String {
     format!("{}{}", at_least(cases, way), shown(middle(cases, way)))
 }
 
-/// Prints the table; false if two ways of solving disagree on a case.
+/// Prints the table; false if two ways of solving disagree on a case, or one with its name.
 pub fn table(options: &Options) -> bool {
     let (library, lazy) = (shown(options.limits.library), shown(options.limits.lazy));
     println!("Run: limit {library} for the library, {lazy} for the lazy intruder, which stops unfinished there.");
@@ -95,17 +109,15 @@ pub fn table(options: &Options) -> bool {
     let lazy_columns = ["as published", "unfinished", "ratio", "with shortcuts", "unfinished", "ratio"].join(" | ");
     println!("| family | cases | yes | no | library | slowest | unfinished | {lazy_columns} | deepest stack |");
     println!("|---|---|---|---|---|---|---|---|---|---|---|---|---|---|");
-    let mut agreed = true;
+    let mut all_agreed = true;
     let mut deepest = (0, String::new());
     for family in families(options) {
         let mut cases: Vec<Case> = Vec::new();
         for (name, bytes) in &family.files {
             let case = outside(bytes, options.limits);
-            let known: Vec<&str> = case.iter().filter(|d| d.reply != "unfinished").map(|d| d.reply.as_str()).collect();
-            let fits = |reply: &&str| *reply == known[0] && ["yes", "no"].contains(reply);
-            if !known.iter().all(fits) {
+            if !agreed(name, &case) {
                 eprintln!("{name}: library {}, as published {}, with shortcuts {}", case[0].reply, case[1].reply, case[2].reply);
-                agreed = false;
+                all_agreed = false;
             }
             if case[0].extent > deepest.0 {
                 deepest = (case[0].extent, name.clone());
@@ -137,5 +149,5 @@ pub fn table(options: &Options) -> bool {
         );
     }
     println!("\nDeepest stack of the library's run: {} bytes, on {}.\n", deepest.0, deepest.1);
-    agreed
+    all_agreed
 }

@@ -1,7 +1,5 @@
 //! Each question asked of the library and held against the reference.
 
-use std::time::Instant;
-
 use generator::chance::Chance;
 use reference::brute;
 use reference::casefile::{read, CaseFile, Cell};
@@ -11,11 +9,13 @@ use reference::questions::{self, Reply};
 use crate::buffers::Call;
 use crate::options::Options;
 use crate::tally::Tally;
+use crate::worker::{Lost, Worker};
 
 /// One file being compared.
 pub struct Asking<'a> {
     pub options: &'a Options,
     pub tally: &'a mut Tally,
+    pub worker: &'a mut Worker,
     pub chance: Chance,
     pub number: u64,
     pub shape: &'static str,
@@ -165,19 +165,32 @@ impl Asking<'_> {
         let accepted = questions::open_run(file, count);
         let Ok(case) = accepted else {
             let room = self.some_room();
-            let call = Call::with(&mut self.chance, room, |out| library::run(file, out));
+            let call = self.called(room)?;
             let reply = questions::open_run(file, room).expect_err("refused above").into();
             self.exact("run", "", &call, &reply, "run");
             return None;
         };
         if count > 0 {
             let room = if self.chance.once_in(2) { count - 1 } else { self.chance.below(count) };
-            let call = Call::with(&mut self.chance, room, |out| library::run(file, out));
+            let call = self.called(room)?;
             self.exact("run", "", &call, &Reply::Refused(9, count), "run");
         }
         let outcomes = self.outcomes(&case);
         let more = if self.chance.once_in(4) { self.chance.between(1, 40) } else { 0 };
         self.run_with(&case, count + more, &outcomes)
+    }
+
+    /// The library's run; nothing if it is not ended in time, or ends its process, which counts as a difference.
+    fn called(&mut self, room: usize) -> Option<Call> {
+        match self.worker.run(self.chance.byte(), room, self.file) {
+            Ok((call, time)) => {
+                self.tally.slowest = self.tally.slowest.max((time, self.number));
+                return Some(call);
+            }
+            Err(Lost::Late) => self.tally.late.push(self.number),
+            Err(Lost::Ended) => self.differs("run", format!("{room} bytes of room: the library ended the program")),
+        }
+        None
     }
 
     /// What each independent way of solving says.
@@ -202,12 +215,7 @@ impl Asking<'_> {
 
     fn run_with(&mut self, case: &CaseFile, room: usize, outcomes: &[(&'static str, Outcome)]) -> Option<Vec<u8>> {
         let file = self.file;
-        let start = Instant::now();
-        let call = Call::with(&mut self.chance, room, |out| library::run(file, out));
-        let time = start.elapsed();
-        if time > self.tally.slowest.0 {
-            self.tally.slowest = (time, self.number);
-        }
+        let call = self.called(room)?;
         if call.number == library::UNFINISHED && !library::LINKED {
             self.tally.reply("run", "unfinished");
             return None;
@@ -219,7 +227,8 @@ impl Asking<'_> {
         if call.number == 0 {
             self.tally.reply("run", "no");
             self.tally.shape(self.shape, 2);
-            self.tally.note(format!("run no, agreed by: {}", says(false).join(", ")));
+            let agreed = if says(false).is_empty() { "none".into() } else { says(false).join(", ") };
+            self.tally.note(format!("run no, agreed by: {agreed}"));
             if !call.untouched() {
                 self.differs("run", "the buffer is touched though the reply is no".into());
             }

@@ -13,15 +13,30 @@ pub struct Call {
     pub outside: bool,
 }
 
+/// The pattern of a buffer and of the bytes around it.
+fn pattern(salt: u8, room: usize) -> Vec<u8> {
+    (0..room + 2 * GUARD).map(|i| (i as u8).wrapping_mul(37) ^ salt).collect()
+}
+
 impl Call {
     /// Calls with a patterned buffer of `room` bytes.
     pub fn with(chance: &mut Chance, room: usize, ask: impl FnOnce(&mut [u8]) -> u64) -> Call {
-        let salt = chance.byte();
-        let whole: Vec<u8> = (0..room + 2 * GUARD).map(|i| (i as u8).wrapping_mul(37) ^ salt).collect();
+        Call::salted(chance.byte(), room, ask)
+    }
+
+    /// Calls with the buffer of `room` bytes that the salt gives.
+    pub fn salted(salt: u8, room: usize, ask: impl FnOnce(&mut [u8]) -> u64) -> Call {
+        let whole = pattern(salt, room);
         let mut lent = whole.clone();
         let number = ask(&mut lent[GUARD..GUARD + room]);
         let outside = lent[..GUARD] != whole[..GUARD] || lent[GUARD + room..] != whole[GUARD + room..];
-        Call { number, before: whole[GUARD..GUARD + room].to_vec(), after: lent[GUARD..GUARD + room].to_vec(), outside }
+        Call::told(salt, number, outside, lent[GUARD..GUARD + room].to_vec())
+    }
+
+    /// A call with the buffer that the salt gives, from what it left behind.
+    pub fn told(salt: u8, number: u64, outside: bool, after: Vec<u8>) -> Call {
+        let before = pattern(salt, after.len())[GUARD..GUARD + after.len()].to_vec();
+        Call { number, before, after, outside }
     }
 
     /// Number and place of a refusal.

@@ -7,6 +7,7 @@ mod buffers;
 mod options;
 mod smaller;
 mod tally;
+mod worker;
 
 use std::io::IsTerminal;
 use std::process::ExitCode;
@@ -14,6 +15,7 @@ use std::time::{Duration, Instant};
 
 use generator::chance::Chance;
 use generator::damage::damaged;
+use generator::grown::grown;
 use generator::shapes;
 use generator::text::{hex, readable};
 use reference::casefile::{read, CaseFile, Cell};
@@ -21,6 +23,7 @@ use reference::casefile::{read, CaseFile, Cell};
 use ask::Asking;
 use options::Options;
 use tally::Tally;
+use worker::Worker;
 
 fn main() -> ExitCode {
     let options = match Options::read(std::env::args().skip(1)) {
@@ -34,6 +37,10 @@ fn main() -> ExitCode {
         eprintln!("--fault: of {:?}, and only without the library", library::FAULTS);
         return ExitCode::from(2);
     }
+    if options.serve {
+        worker::serve();
+        return ExitCode::SUCCESS;
+    }
     println!(
         "{}",
         if library::LINKED { "the library against the reference" } else { "no library linked: a stand-in against the reference" }
@@ -41,6 +48,7 @@ fn main() -> ExitCode {
     let start = Instant::now();
     let mut progress = Progress { last: start, start };
     let mut tally = Tally::default();
+    let mut worker = Worker::new(&options);
     for number in options.from..options.from + options.files {
         if options.trace {
             eprintln!("file {number}");
@@ -54,22 +62,22 @@ fn main() -> ExitCode {
                     return ExitCode::from(2);
                 }
             },
-            None => made(&mut chance, options.damaged),
+            None => made(&mut chance, &options),
         };
         if options.only {
             println!("file {number}: {}\n{}", hex(&made.file), readable(&made.file));
         }
         tally.note(format!("files of shape {}", made.shape));
-        compare_file(&options, &mut tally, chance, number, &made);
+        compare_file(&options, &mut tally, &mut worker, chance, number, &made);
         progress.show(number + 1 - options.from, options.files, &tally);
     }
     tally.print(options.files, options.seed, start.elapsed());
     if let Some(first) = &tally.first {
-        if let Some(small) = smaller::smaller(&options, first.question, &first.file) {
+        if let Some(small) = smaller::smaller(&options, &mut worker, first.question, &first.file) {
             println!("made smaller:\n{small}");
         }
     }
-    ExitCode::from((tally.differences > 0) as u8)
+    ExitCode::from(tally.status())
 }
 
 /// A file for comparing and the name of its shape.
@@ -78,9 +86,14 @@ pub struct Made {
     pub file: Vec<u8>,
 }
 
-/// A generated file, whole or damaged.
-fn made(chance: &mut Chance, damaged_percent: usize) -> Made {
-    if chance.percent(damaged_percent) {
+/// A generated file: grown to some number of cells, or as it comes, whole or damaged.
+fn made(chance: &mut Chance, options: &Options) -> Made {
+    if let Some(cells) = &options.cells {
+        let cells = chance.between(*cells.start(), *cells.end());
+        let (shape, case) = grown(chance.clone(), cells);
+        return Made { shape, file: case.bytes() };
+    }
+    if chance.percent(options.damaged) {
         return Made { shape: "damaged", file: damaged(chance.clone()) };
     }
     let (shape, case) = shapes::any(chance.clone());
@@ -88,11 +101,11 @@ fn made(chance: &mut Chance, damaged_percent: usize) -> Made {
 }
 
 /// Asks all questions about a file; marks and reducing also about the file with atoms in place of its variables.
-pub fn compare_file(options: &Options, tally: &mut Tally, mut chance: Chance, number: u64, made: &Made) {
+pub fn compare_file(options: &Options, tally: &mut Tally, worker: &mut Worker, mut chance: Chance, number: u64, made: &Made) {
     let (file, shape) = (&made.file[..], made.shape);
     let before = made.file.clone();
     let grounded = read(file).ok().filter(|case| case.first_var.is_some()).map(|case| without_vars(case, &mut chance));
-    let mut asking = Asking { options, tally, chance: Chance::new(chance.word()), number, shape, file };
+    let mut asking = Asking { options, tally, worker, chance: Chance::new(chance.word()), number, shape, file };
     if options.asks("equate") {
         asking.equate();
     }
@@ -102,7 +115,7 @@ pub fn compare_file(options: &Options, tally: &mut Tally, mut chance: Chance, nu
     }
     asking.ground_questions();
     if let Some(bytes) = grounded {
-        Asking { options, tally, chance, number, shape, file: &bytes }.ground_questions();
+        Asking { options, tally, worker, chance, number, shape, file: &bytes }.ground_questions();
     }
     if made.file != before {
         tally.differs(number, "run", &before, "the file itself is touched".into());

@@ -1,5 +1,10 @@
 //! The flags of `compare`.
 
+use std::ops::RangeInclusive;
+use std::time::Duration;
+
+use reference::casefile::MOST;
+
 pub const QUESTIONS: [&str; 5] = ["equate", "run", "check", "marks", "reduce"];
 
 pub const HELP: &str = "\
@@ -11,13 +16,15 @@ compare: case files through the library and through an independent reference, ev
   --only I         one file alone, shown with its replies
   --questions Q,.. of equate, run, check, marks, reduce (all)
   --damaged P      how many files of a hundred are damaged on purpose (15)
+  --cells LO..HI   only files of LO to HI cells, parts of several shapes in one, none damaged
   --sets N         constraint sets at which the lazy intruder stops unfinished (1500)
   --lists N        value lists up to which all are tried (1500)
   --file PATH      compare this file alone and no generated ones
   --fault NAME     let the stand-in be wrong in a known way (only without the library)
-  --trace          the number of each file before it is asked, for finding one that never ends
+  --limit MS       time for one run of the library (10000)
+  --trace          the number of each file before it is asked, for finding one that never ends or ends the program
 
-Exit status: 0 if all replies agree, 1 if any differs, 2 for a flag not understood.";
+Exit status: 0 if all replies agree, 1 if any differs, 2 for a flag not understood, 3 if none differs but some run is not ended in time.";
 
 #[derive(Clone)]
 pub struct Options {
@@ -27,11 +34,16 @@ pub struct Options {
     pub only: bool,
     pub questions: Vec<&'static str>,
     pub damaged: usize,
+    /// The numbers of cells to which files are grown; without it files of all shapes are made as they come.
+    pub cells: Option<RangeInclusive<usize>>,
     pub sets: usize,
     pub lists: usize,
     pub path: Option<String>,
     pub fault: String,
+    pub limit: Duration,
     pub trace: bool,
+    /// Whether this process only serves runs, see `worker`.
+    pub serve: bool,
 }
 
 impl Options {
@@ -39,59 +51,81 @@ impl Options {
         self.questions.contains(&question)
     }
 
-    /// Reads the flags; a message if one is not understood.
-    pub fn read(args: impl Iterator<Item = String>) -> Result<Options, String> {
-        let mut options = Options {
+    /// What holds where no flag says otherwise.
+    fn usual() -> Options {
+        Options {
             files: 20_000,
             seed: 1,
             from: 0,
             only: false,
             questions: QUESTIONS.to_vec(),
             damaged: 15,
+            cells: None,
             sets: 1500,
             lists: 1500,
             path: None,
             fault: "none".into(),
+            limit: Duration::from_secs(10),
             trace: false,
-        };
-        let mut args = args;
+            serve: false,
+        }
+    }
+
+    /// Reads the flags; a message if one is not understood.
+    pub fn read(mut args: impl Iterator<Item = String>) -> Result<Options, String> {
+        let mut options = Options::usual();
         while let Some(flag) = args.next() {
-            if flag == "--trace" {
-                options.trace = true;
-                continue;
-            }
-            if flag == "--help" {
-                return Err(HELP.into());
-            }
-            let value = args.next().ok_or(format!("{flag}: value missing, or no such flag\n\n{HELP}"))?;
-            let number = || value.replace('_', "").parse::<u64>().map_err(|_| format!("{flag}: {value} is no number"));
             match flag.as_str() {
-                "--files" => options.files = number()?,
-                "--seed" => options.seed = number()?,
-                "--from" => options.from = number()?,
-                "--only" => {
-                    options.from = number()?;
-                    options.files = 1;
-                    options.only = true;
+                "--trace" => options.trace = true,
+                "--serve" => options.serve = true,
+                "--help" => return Err(HELP.into()),
+                _ => {
+                    let value = args.next().ok_or(format!("{flag}: value missing, or no such flag\n\n{HELP}"))?;
+                    options.set(&flag, value)?;
                 }
-                "--questions" => options.questions = questions(&value)?,
-                "--damaged" => options.damaged = number()? as usize,
-                "--sets" => options.sets = number()? as usize,
-                "--lists" => options.lists = number()? as usize,
-                "--file" => {
-                    options.path = Some(value);
-                    options.files = 1;
-                    options.only = true;
-                }
-                "--fault" => options.fault = value,
-                _ => return Err(format!("{flag}: no such flag\n\n{HELP}")),
             }
         }
         Ok(options)
+    }
+
+    /// Takes over one flag with its value.
+    fn set(&mut self, flag: &str, value: String) -> Result<(), String> {
+        let number = || value.replace('_', "").parse::<u64>().map_err(|_| format!("{flag}: {value} is no number"));
+        match flag {
+            "--files" => self.files = number()?,
+            "--seed" => self.seed = number()?,
+            "--from" => self.from = number()?,
+            "--only" => {
+                self.from = number()?;
+                self.files = 1;
+                self.only = true;
+            }
+            "--questions" => self.questions = questions(&value)?,
+            "--damaged" => self.damaged = number()? as usize,
+            "--cells" => self.cells = Some(cells(&value)?),
+            "--sets" => self.sets = number()? as usize,
+            "--lists" => self.lists = number()? as usize,
+            "--file" => {
+                self.path = Some(value);
+                self.files = 1;
+                self.only = true;
+            }
+            "--fault" => self.fault = value,
+            "--limit" => self.limit = Duration::from_millis(number()?),
+            _ => return Err(format!("{flag}: no such flag\n\n{HELP}")),
+        }
+        Ok(())
     }
 }
 
 fn questions(value: &str) -> Result<Vec<&'static str>, String> {
     let known = |name: &str| QUESTIONS.iter().find(|&&q| q == name).copied().ok_or(format!("--questions: {name} is none"));
     value.split(',').map(known).collect()
+}
+
+/// Numbers of cells, both ends included.
+fn cells(value: &str) -> Result<RangeInclusive<usize>, String> {
+    let ends = value.split_once("..").and_then(|(low, high)| Some((low.parse().ok()?, high.parse().ok()?)));
+    let fits = |&(low, high): &(usize, usize)| 0 < low && low <= high && high <= MOST;
+    ends.filter(fits).map(|(low, high)| low..=high).ok_or(format!("--cells: {value} is not LO..HI from 1 to {MOST}"))
 }

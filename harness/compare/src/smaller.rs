@@ -5,14 +5,15 @@ use reference::casefile::{read, CaseFile, Cell, Event};
 
 use crate::options::Options;
 use crate::tally::{Difference, Tally};
+use crate::worker::Worker;
 use crate::{compare_file, Made};
 
 /// How the question still differs on the file, tried with a few sources of chance.
-fn difference(options: &Options, question: &'static str, file: &[u8]) -> Option<Difference> {
+fn difference(options: &Options, worker: &mut Worker, question: &'static str, file: &[u8]) -> Option<Difference> {
     let narrow = Options { questions: vec![question], ..options.clone() };
     (0..12).find_map(|start| {
         let mut tally = Tally::default();
-        compare_file(&narrow, &mut tally, Chance::new(start), 0, &Made { shape: "smaller", file: file.to_vec() });
+        compare_file(&narrow, &mut tally, worker, Chance::new(start), 0, &Made { shape: "smaller", file: file.to_vec() });
         tally.first
     })
 }
@@ -71,11 +72,11 @@ fn steps(case: &CaseFile) -> Vec<CaseFile> {
 }
 
 /// A difference on a file that no step makes smaller without losing it; nothing if the file is refused anyway.
-pub fn smaller(options: &Options, question: &'static str, file: &[u8]) -> Option<Difference> {
+pub fn smaller(options: &Options, worker: &mut Worker, question: &'static str, file: &[u8]) -> Option<Difference> {
     let mut case = read(file).ok()?;
-    let keeps = |next: &CaseFile| read(&next.bytes()).is_ok() && difference(options, question, &next.bytes()).is_some();
+    let mut keeps = |next: &CaseFile| read(&next.bytes()).is_ok() && difference(options, worker, question, &next.bytes()).is_some();
     while let Some(next) = steps(&case).into_iter().find(|next| keeps(next)) {
         case = next;
     }
-    difference(options, question, &case.bytes())
+    difference(options, worker, question, &case.bytes())
 }

@@ -29,6 +29,8 @@ pub struct Tally {
     pub first: Option<Difference>,
     /// The longest run of the library and the number of its file.
     pub slowest: (Duration, u64),
+    /// The numbers of the files whose run was not ended in time.
+    pub late: Vec<u64>,
 }
 
 impl Tally {
@@ -51,6 +53,15 @@ impl Tally {
         self.first.get_or_insert_with(|| Difference { number, question, file: file.to_vec(), what });
     }
 
+    /// The exit status of the program.
+    pub fn status(&self) -> u8 {
+        match (self.differences, self.late.len()) {
+            (0, 0) => 0,
+            (0, _) => 3,
+            _ => 1,
+        }
+    }
+
     pub fn print(&self, files: u64, seed: u64, time: Duration) {
         println!("{files} files, {} replies, seed {seed}, {:.1} s", self.calls, time.as_secs_f64());
         let mut last = "";
@@ -69,6 +80,9 @@ impl Tally {
         }
         if self.slowest.0 > Duration::ZERO {
             println!("  slowest run: {:.3} ms, file {}", self.slowest.0.as_secs_f64() * 1e3, self.slowest.1);
+        }
+        if !self.late.is_empty() {
+            println!("  runs not ended in time: {}, files {:?}", self.late.len(), self.late);
         }
         println!("differences: {}", self.differences);
         if let Some(first) = &self.first {

@@ -13,6 +13,8 @@ fn right_is_right_and_wrong_is_wrong() {
     if library::LINKED {
         return;
     }
+    let large = compare(&["--files", "60", "--cells", "65..128"]);
+    assert_eq!(large.status.code(), Some(0), "{}", String::from_utf8_lossy(&large.stdout));
     for fault in &library::FAULTS[1..] {
         let wrong = compare(&["--files", "400", "--seed", "3", "--fault", fault]);
         assert_eq!(wrong.status.code(), Some(1), "{fault} is not seen");
@@ -23,4 +25,14 @@ fn right_is_right_and_wrong_is_wrong() {
 fn flags_not_understood() {
     assert_eq!(compare(&["--questions", "nothing"]).status.code(), Some(2));
     assert_eq!(compare(&["--no-such-flag", "1"]).status.code(), Some(2));
+    assert_eq!(compare(&["--cells", "65..129"]).status.code(), Some(2));
+}
+
+/// A run that has no time is counted, and the next file is asked.
+#[test]
+fn late_runs() {
+    let late = compare(&["--files", "3", "--damaged", "0", "--limit", "0"]);
+    let told = String::from_utf8_lossy(&late.stdout).into_owned();
+    assert_eq!(late.status.code(), Some(3), "{told}");
+    assert!(told.contains("runs not ended in time: 3, files [0, 1, 2]"), "{told}");
 }

@@ -4,10 +4,15 @@ use reference::casefile::{CaseFile, Cell, Event, MOST};
 
 use crate::chance::Chance;
 
+/// How many places a message may have that is copied with changes; one with more stays as it is.
+const MANY: u64 = 1 << 14;
+
 /// Cells and events so far. Where there is no room for another cell, an old one is given instead.
 pub struct Draft {
     pub cells: Vec<Cell>,
     pub events: Vec<Event>,
+    /// The most cells, at most 128.
+    pub most: usize,
     /// How often, in percent, a cell equal to an old one is made again (a twin) and not reused.
     pub twins: usize,
     pub chance: Chance,
@@ -16,7 +21,7 @@ pub struct Draft {
 impl Draft {
     pub fn new(mut chance: Chance) -> Self {
         let twins = *chance.pick(&[0, 5, 30, 100]);
-        Draft { cells: Vec::new(), events: Vec::new(), twins, chance }
+        Draft { cells: Vec::new(), events: Vec::new(), most: MOST, twins, chance }
     }
 
     pub fn count(&self) -> usize {
@@ -30,8 +35,8 @@ impl Draft {
                 return old as u8;
             }
         }
-        if self.cells.len() == MOST {
-            return old.unwrap_or_else(|| self.chance.below(MOST)) as u8;
+        if self.cells.len() == self.most {
+            return old.unwrap_or_else(|| self.chance.below(self.most)) as u8;
         }
         self.cells.push(cell);
         (self.cells.len() - 1) as u8
@@ -101,11 +106,20 @@ impl Draft {
         self.events.iter().fold(0, |sum, e| sum | made(e))
     }
 
+    /// Whether the tree of a message has so many places that it is not to be gone through place by place.
+    pub fn vast(&self, c: u8) -> bool {
+        let mut places: Vec<u64> = Vec::with_capacity(self.count());
+        for cell in &self.cells[..=c as usize] {
+            places.push(cell.parts().iter().flatten().fold(1u64, |sum, &p| sum.saturating_add(places[p as usize])));
+        }
+        places[c as usize] > MANY
+    }
+
     /// A copy of a message in which some parts give way to variables, old or new.
     pub fn loosen(&mut self, c: u8, percent: usize) -> u8 {
         if self.chance.percent(percent) {
             let old: Vec<u8> = (0..self.count()).filter(|&v| self.cells[v] == Cell::Var).map(|v| v as u8).collect();
-            if !old.is_empty() && (self.count() >= MOST || self.chance.percent(40)) {
+            if !old.is_empty() && (self.count() >= self.most || self.chance.percent(40)) {
                 return *self.chance.pick(&old);
             }
             return self.var();
@@ -122,7 +136,7 @@ impl Draft {
     }
 
     fn rebuilt(&mut self, c: u8, mut part: impl FnMut(&mut Draft, u8) -> u8) -> u8 {
-        if self.count() + 4 > MOST {
+        if self.count() + 4 > self.most || self.vast(c) {
             return c;
         }
         match self.cells[c as usize] {

@@ -6,6 +6,8 @@ pub mod chance;
 pub mod damage;
 pub mod draft;
 pub mod families;
+pub mod grown;
+pub mod large;
 pub mod planted;
 pub mod shapes;
 pub mod text;

@@ -1,7 +1,7 @@
 //! Files with a planted solution: every variable has a value in mind, and what must be made can be made under these
 //! values. A last change breaks some of them, so that what looks solvable is not.
 
-use reference::casefile::{CaseFile, Cell, Event, MOST};
+use reference::casefile::{CaseFile, Cell, Event};
 use reference::questions::values_right;
 
 use crate::draft::Draft;
@@ -9,14 +9,14 @@ use crate::draft::Draft;
 /// A draft with the value in mind for each variable.
 struct Plant<'a> {
     draft: &'a mut Draft,
-    /// One entry per cell: a variable's cell in mind, else the cell itself.
+    /// One entry per cell: a variable's cell in mind, 255 for one that was there before, else the cell itself.
     list: Vec<u8>,
 }
 
 impl Plant<'_> {
     fn keep_up(&mut self) {
         for c in self.list.len()..self.draft.count() {
-            self.list.push(c as u8);
+            self.list.push(if self.draft.cells[c] == Cell::Var { 255 } else { c as u8 });
         }
     }
 
@@ -25,7 +25,7 @@ impl Plant<'_> {
         let same = (0..self.list.len()).find(|&v| self.draft.cells[v] == Cell::Var && self.list[v] == self.value(c));
         match same {
             Some(v) if self.draft.chance.percent(70) => v as u8,
-            _ if self.draft.count() >= MOST - 8 => c,
+            _ if self.draft.count() + 8 >= self.draft.most => c,
             _ => {
                 let v = self.draft.var();
                 self.keep_up();
@@ -46,6 +46,9 @@ impl Plant<'_> {
     fn loosened(&mut self, c: u8, percent: usize) -> u8 {
         if self.draft.chance.percent(percent) {
             return self.var_for(c);
+        }
+        if self.draft.vast(c) {
+            return c;
         }
         let made = match self.draft.cells[c as usize] {
             Cell::Atom(_) | Cell::Var => c,

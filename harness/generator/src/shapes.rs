@@ -6,7 +6,7 @@ use crate::chance::Chance;
 use crate::draft::Draft;
 use crate::planted::planted;
 
-type Maker = fn(&mut Draft);
+pub(crate) type Maker = fn(&mut Draft);
 
 /// Name, weight and maker of each shape; small files weigh more than large ones.
 const SHAPES: [(&str, usize, Maker); 15] = [
@@ -27,18 +27,24 @@ const SHAPES: [(&str, usize, Maker); 15] = [
     ("steered", 20, steered),
 ];
 
-/// Any case file, with the name of its shape.
-pub fn any(mut chance: Chance) -> (&'static str, CaseFile) {
+/// Name and maker of a shape, drawn by weight.
+pub(crate) fn drawn(chance: &mut Chance) -> (&'static str, Maker) {
     let mut left = chance.below(SHAPES.iter().map(|(_, weight, _)| weight).sum());
     for (name, weight, make) in SHAPES {
         if left < weight {
-            let mut draft = Draft::new(chance);
-            make(&mut draft);
-            return (name, draft.done());
+            return (name, make);
         }
         left -= weight;
     }
     unreachable!("the weights add up to more than what is left")
+}
+
+/// Any case file, with the name of its shape.
+pub fn any(mut chance: Chance) -> (&'static str, CaseFile) {
+    let (name, make) = drawn(&mut chance);
+    let mut draft = Draft::new(chance);
+    make(&mut draft);
+    (name, draft.done())
 }
 
 fn some_roles(draft: &mut Draft) {
@@ -585,7 +591,7 @@ fn steered(draft: &mut Draft) {
 /// Up to 128 cells and 128 events.
 fn large(draft: &mut Draft) {
     draft.twins = draft.twins.max(5);
-    let cells = if draft.chance.once_in(2) { MOST } else { draft.chance.between(40, MOST) };
+    let cells = if draft.chance.once_in(2) { MOST } else { draft.chance.between(40, MOST) }.min(draft.most);
     let vars = draft.chance.between(0, 3);
     let names = draft.chance.between(2, 9);
     while draft.count() < cells {

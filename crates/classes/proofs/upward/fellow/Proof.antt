@@ -1,85 +1,66 @@
--- The loop's invariant: no cell below d that stands for its class is alike c.
+-- The loop's invariant: best is c or a fellow, and if the links are right, no cell that they have led past is a lower one.
 use native.Mathlib.Omega.{arith}
 use borrow.Author.Needs.{needs}
-use borrow.Author.Count.{below-more}
-use mathlib.Core.Path.{_≡_, sym, _∙_}
-use Prim.Native.Nat.{ℕ, _≤_, _<_, _-_}
+use mathlib.Core.Path.{_≡_}
+use Prim.Native.Nat.{_≤_, _<_, _-_}
 use Rattle.model.specs.Stored.{tableAt}
 use Rattle.theory.specs.Cells.{classAt}
 use Rattle.theory.specs.Classes.{Alike}
-use Rattle.classes.proofs.DifferLaws.{told-apart}
-use Rattle.classes.proofs.Tags.{tag-apart}
+use Rattle.classes.specs.Links.{Leads}
+use Rattle.classes.proofs.LinkLaws.{Walk, walk-start, walk-take, walk-skip}
 use Rattle.classes.proofs.upward.fellow.Statement.{statement}
 use Rattle.classes.proofs.upward.fellow.Tie as tie
 
 abbrev Inv-loop : tie.InvT-loop
-Inv-loop kind first second n rep c d₀ d =
-    (d ≤ c) × ((i : ℕ) → i < d → classAt rep i ≡ i → Alike (classAt rep) (tableAt kind first second c) (tableAt kind first second i) → ⊥)
+Inv-loop kind first second n rep links top c best₀ at₀ best at =
+    (at ≤ c) × (best ≤ c) ×
+    (best < c → (classAt rep best ≡ best) × Alike (classAt rep) (tableAt kind first second c) (tableAt kind first second best)) ×
+    (Leads (tableAt kind first second) (classAt rep) links top c → Walk (tableAt kind first second) (classAt rep) c at best)
 
 abbrev μ-loop : tie.MeasureT-loop
-μ-loop kind first second n rep c d₀ d = c - d
+μ-loop kind first second n rep links top c best₀ at₀ best at = at
 
 loop-holds : tie.Need-loop-holds Inv-loop μ-loop
-loop-holds c = (search needs, λ i h. absurd (omega arith))
+loop-holds c = (c .pre .1 .1 .0, search needs, λ h. absurd (omega arith), λ w. walk-start w)
 
-class-of-requires : tie.Need-class-of-requires Inv-loop μ-loop
-class-of-requires c κs = search needs
+sub-d : tie.Need-sub-d Inv-loop μ-loop
+sub-d c = omega arith
 
-add-d : tie.Need-add-d Inv-loop μ-loop
-add-d c = omega arith
+cast-i : tie.Need-cast-i Inv-loop μ-loop
+cast-i c = search needs
+
+element-copy-out-at : tie.Need-element-copy-out-at Inv-loop μ-loop
+element-copy-out-at c = let s = c .before .before in omega (arith, s .pre .0 .few, s .pre .1 .1 .1)
+
+is-fellow-requires : tie.Need-is-fellow-requires Inv-loop μ-loop
+is-fellow-requires c κs = c .before .before .before .pre .0
 
 loop-less : tie.Need-loop-less Inv-loop μ-loop
-loop-less c = omega arith
+loop-less c = let l = c .before .before .before .before in omega (arith, l .before .pre .1 .0 (l .loop .at - 1))
 
 loop-again : tie.Need-loop-again Inv-loop μ-loop
 loop-again c =
-    let q = c .before in
-    let l = q .before .before in
-    let a = l .before .args in
-    let T = tableAt (a .kind .now) (a .first .now) (a .second .now) in
-    let cls = classAt (a .rep .now) in (
-      omega arith,
-      below-more (λ (i : ℕ). cls i ≡ i → Alike cls (T (a .c)) (T i) → ⊥) (l .loop .d) (l .loop .inv .1) (λ e. absurd (c .if1 .taken (q .class-of .ensures ∙ e))),
-    )
-
-compare-requires : tie.Need-compare-requires Inv-loop μ-loop
-compare-requires c κs = search needs
-
-enum-told : tie.Need-enum-told Inv-loop μ-loop
-enum-told c = search needs
-
-add-d-2 : tie.Need-add-d-2 Inv-loop μ-loop
-add-d-2 c = omega arith
+    let f = c .before in
+    let l = f .before .before .before in
+    let v = l .loop in
+    let less = l .before .pre .1 .0 (v .at - 1) in
+    (omega arith, omega arith, λ _. f .is-fellow .ensures .yes (c .if1 .taken), λ w. walk-take w (v .inv .3 w) (omega arith) (omega arith))
 
 loop-less-2 : tie.Need-loop-less-2 Inv-loop μ-loop
-loop-less-2 c = omega arith
+loop-less-2 c = let l = c .before .before .before .before in omega (arith, l .before .pre .1 .0 (l .loop .at - 1))
 
 loop-again-2 : tie.Need-loop-again-2 Inv-loop μ-loop
 loop-again-2 c =
-    let q = c .before in
-    let l = q .before .before .before .before in
-    let a = l .before .args in
-    let T = tableAt (a .kind .now) (a .first .now) (a .second .now) in
-    let cls = classAt (a .rep .now) in (
-      omega arith,
-      below-more (λ (i : ℕ). cls i ≡ i → Alike cls (T (a .c)) (T i) → ⊥) (l .loop .d) (l .loop .inv .1)
-          (λ _. told-apart cls (T (a .c)) (T (l .loop .d)) (q .compare .result) (q .compare .ensures) (tag-apart _ (c .match .keys2))),
-    )
+    let f = c .before in
+    let l = f .before .before .before in
+    let v = l .loop in
+    let less = l .before .pre .1 .0 (v .at - 1) in
+    (omega arith, v .inv .1, v .inv .2, λ w. walk-skip w (v .inv .3 w) (omega arith) (omega arith) (f .is-fellow .ensures .no (c .if1 .left)))
 
 returns : tie.Need-returns Inv-loop μ-loop
 returns c =
-    let q = c .before .before in
-    let o = q .before .before in
-    let l = o .before .before in
-    record {
-      low = omega arith;
-      stands = λ _. sym (o .class-of .ensures) ∙ q .before .if1 .left;
-      hit = λ _. rw (c .enum-told .given .1) at (q .compare .ensures);
-      miss = l .loop .inv .1;
-    }
-
-returns-2 : tie.Need-returns-2 Inv-loop μ-loop
-returns-2 c = record { low = omega arith; stands = λ h. absurd (omega arith); hit = λ h. absurd (omega arith); miss = λ i h. c .before .loop .inv .1 i (omega arith) }
+    let v = c .before .loop in
+    record { low = v .inv .1; stands = λ h. v .inv .2 h .0; hit = λ h. v .inv .2 h .1; miss = λ w d. v .inv .3 w .missed d (omega arith) }
 
 pub fellow-spec : {M : Type 1} → statement M
 fellow-spec =
@@ -88,14 +69,12 @@ fellow-spec =
     Inv-loop
     μ-loop
     loop-holds
-    class-of-requires
-    add-d
+    sub-d
+    cast-i
+    element-copy-out-at
+    is-fellow-requires
     loop-less
     loop-again
-    compare-requires
-    enum-told
-    add-d-2
     loop-less-2
     loop-again-2
-    returns
-    returns-2)
+    returns)

@@ -1,28 +1,33 @@
--- The loop's invariant: the classes have moved by joins of cells that are alike, and if by none, no cell below c that stands for its class has a fellow.
+-- The loop's invariant: the classes have moved by joins of cells that are alike; if by none, no cell below c that stands for its class has a fellow, and the links
+-- are right.
 use native.Mathlib.Omega.{arith}
 use Prim.Native.Nat.{_≤_, _-_}
 use mathlib.Core.Path.{_≡_, subst}
 use Rattle.model.specs.Stored.{tableAt}
 use Rattle.classes.specs.Upward.{Lifts}
-use Rattle.classes.proofs.UpwardLaws.{lifts-none, lifts-more, lifts-stay}
+use Rattle.classes.proofs.LinkLaws.{down-none}
+use Rattle.classes.proofs.UpwardLaws.{Lifting, lifting-none, lifting-more, lifting-stay}
 use Rattle.classes.proofs.upward.lift.Statement.{statement}
 use Rattle.classes.proofs.upward.lift.Tie as tie
 
 abbrev Inv-loop : tie.InvT-loop
-Inv-loop kind first second n rep₀ changed₀ c₀ rep changed c =
-    Lifts n (tableAt kind first second) rep₀ c rep changed × (c ≤ n)
+Inv-loop kind first second n rep₀ tops₀ links₀ changed₀ c₀ rep tops links changed c =
+    Lifting n (tableAt kind first second) rep₀ c rep tops links changed × (c ≤ n)
 
 abbrev μ-loop : tie.MeasureT-loop
-μ-loop kind first second n rep₀ changed₀ c₀ rep changed c = n - c
+μ-loop kind first second n rep₀ tops₀ links₀ changed₀ c₀ rep tops links changed c = n - c
 
 loop-holds : tie.Need-loop-holds Inv-loop μ-loop
-loop-holds c = (lifts-none (c .pre .1), omega arith)
+loop-holds c = (lifting-none (c .pre .1) down-none, omega arith)
 
 cast-meet : tie.Need-cast-meet Inv-loop μ-loop
-cast-meet c = omega (arith, c .before .before .pre .0 .few)
+cast-meet c = omega (arith, c .before .before .before .before .before .pre .0 .few)
 
 meet-requires : tie.Need-meet-requires Inv-loop μ-loop
-meet-requires c κs = (c .before .before .pre .0, (c .before .loop .inv .0 .moved .holds, omega arith))
+meet-requires c κs =
+    let l = c .before .before .before .before in
+    let v = l .loop .inv .0 in
+    (l .before .pre .0, (v .lifts .moved .holds, (v .down, omega arith)))
 
 add-c : tie.Need-add-c Inv-loop μ-loop
 add-c c = omega arith
@@ -32,16 +37,18 @@ loop-less c = omega arith
 
 loop-again : tie.Need-loop-again Inv-loop μ-loop
 loop-again c =
-    let q = c .before .before in
-    (lifts-more (q .before .before .loop .inv .0) (q .meet .ensures) (c .if1 .taken), omega arith)
+    let m = c .before in
+    let l = m .before .before .before .before .before in
+    (lifting-more (l .loop .inv .0) (m .meet .ensures) (c .if1 .taken), omega arith)
 
 loop-less-2 : tie.Need-loop-less-2 Inv-loop μ-loop
 loop-less-2 c = omega arith
 
 loop-again-2 : tie.Need-loop-again-2 Inv-loop μ-loop
 loop-again-2 c =
-    let q = c .before .before in
-    (lifts-stay (q .before .before .loop .inv .0) (q .meet .ensures) (c .if1 .left), omega arith)
+    let m = c .before in
+    let l = m .before .before .before .before .before in
+    (lifting-stay (l .loop .inv .0) (m .meet .ensures) (c .if1 .left), omega arith)
 
 returns : tie.Need-returns Inv-loop μ-loop
 returns c =
@@ -49,7 +56,7 @@ returns c =
     let a = l .before .args in
     let v = l .loop in
     let end : v .c ≡ a .n = omega arith in
-    subst (λ k. Lifts (a .n) (tableAt (a .kind .now) (a .first .now) (a .second .now)) (a .start) k (v .rep) (v .changed)) end (v .inv .0)
+    subst (λ k. Lifts (a .n) (tableAt (a .kind .now) (a .first .now) (a .second .now)) (a .start) k (v .rep) (v .changed)) end (v .inv .0 .lifts)
 
 pub lift-spec : {M : Type 1} → statement M
 lift-spec =
