@@ -125,7 +125,7 @@ module _ {n : ℕ} {K F S rep : List ℕ} (w : Rows n K F S) (s : Solved n (tabl
   row = kept-row w (s .kept)
 
   chosen-tries : {o : Marks} {g : Grant} → Exact T rep ev p (o .seen) (o .built) → (On (o .built) (classAt rep (getD cells p 0)) → ⊥) → GrantedAt T rep ev p (g .seen) (g .built) → {x : Trial} →
-      Chosen T n rep o g kinds cells p x → Tries T ev rep x
+      Chosen T n rep o g kinds cells p x → Tries T ev rep (x .want) (x .bare)
   chosen-tries {o} {g} e lacks h {x} (Chosen.line l b) wf =
       granted-enough T ev (classAt rep) p (May T rep) (On (g .seen)) (On (g .built)) (On (h .need)) (On (h .held)) (On (h .over)) (On (x .want)) (On (x .bare))
       (rows-formed w) wf (solved-state n T rep s) (may-mays T rep ev) (h .granted) (record { unbuilt = λ c i u. l .unbuilt c u; part = λ c d i u q. l .part c d u q })
@@ -167,12 +167,15 @@ module _ (T : Table) (rep : List ℕ) (ev : Run) where
     }
 
     -- A position where it is not.
-    planned-tries : {x : Trial} → Tries T ev rep x → {r : Choice} → Better best x r → Planned T ev rep (p + 1) r
+    planned-tries : {x : Trial} → Tries T ev rep (x .want) (x .bare) → {r : Choice} → Better best x r → Planned T ev rep (p + 1) r
     planned-tries t {r} (Better.old n e) = record {
       ready = λ i. absurd (true≢false (sym i ∙ (ap (λ c. c .ready) e ∙ n)));
-      tries = λ _. subst (λ c. Tries T ev rep (c .trial)) (sym e) (w .tries n);
+      tries = λ _. subst (λ c. Tries T ev rep (c .want) (c .bare)) (sym e) (w .tries n);
     }
-    planned-tries t {r} (Better.new n e) = record { ready = λ i. absurd (true≢false (sym i ∙ n)); tries = λ _. subst (Tries T ev rep) (sym e) t }
+    planned-tries {x} t {r} (Better.new n e j) = record {
+      ready = λ i. absurd (true≢false (sym i ∙ n));
+      tries = λ _. subst (Tries T ev rep (r .want)) (sym j) (subst (λ l. Tries T ev rep l (x .bare)) (sym e) t);
+    }
 
 -- A plan of all positions of the run.
 pub planned-all : (T : Table) (rep : List ℕ) (count : ℕ) (kinds cells : List ℕ) (pl : Choice) → Planned T (runAt count kinds cells) rep count pl → Plans T (runAt count kinds cells) rep pl

@@ -87,13 +87,13 @@ module _ {n : ℕ} {K F S rep : List ℕ} (w : Rows n K F S) (ev : Run) (s : Sol
   }
 
   pub searched-no : WellFormed T ev → (pl : Choice) (f : Found) → Plans T ev rep pl → pl .ready ≡ false → f .yes ≡ false →
-      ((i j : ℕ) → i < n → j < n → Pairs T rep (pl .trial .want) (pl .trial .bare) i j → NoneWith T ev (classAt rep) i j) → Searched T n ev rep f
+      ((i j : ℕ) → i < n → j < n → Pairs T rep (pl .want) (pl .bare) i j → NoneWith T ev (classAt rep) i j) → Searched T n ev rep f
   searched-no wf pl f p e y all = record {
     solved = λ z. absurd (true≢false (sym z ∙ y));
     ready = λ z. absurd (true≢false (sym z ∙ y));
     none = λ _.
         p .tries e wf
-        (λ c d ec ed x z k a. tried-pairs T n ev rep (pl .trial .want) (pl .trial .bare) all c d (kin-below w c d k .0) (kin-below w c d k .1) x z k (λ i. a (sym ec ∙ (i ∙ ed))));
+        (λ c d ec ed x z k a. tried-pairs T n ev rep (pl .want) (pl .bare) all c d (kin-below w c d k .0) (kin-below w c d k .1) x z k (λ i. a (sym ec ∙ (i ∙ ed))));
   }
 
 pub searched-child : (T : Table) (n : ℕ) (ev : Run) (rep next : List ℕ) (f : Found) → Searched T n ev next f → f .yes ≡ true → Searched T n ev rep f

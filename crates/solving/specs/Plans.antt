@@ -46,24 +46,24 @@ pub data Chosen (T : Table) (n : ℕ) (rep : List ℕ) (o : Marks) (g : Grant) (
   line : LineRow T rep (g .built) (classAt rep (getD cells p 0)) (x .want) → BareTo T rep (g .seen) (g .built) (x .bare) n → Chosen T n rep o g kinds cells p x
   all : WantedRow T rep (o .seen) (o .built) kinds cells p (x .want) → BareTo T rep (o .seen) (o .built) (x .bare) n → Chosen T n rep o g kinds cells p x
 
--- If no pair of what is tried can be made equal by right values, there are none.
-abbrev pub Tries : Table → Run → List ℕ → Trial → Type 0
-Tries T ev rep x = WellFormed T ev → Enough T ev (classAt rep) (On (x .want)) (On (x .bare))
+-- If no pair of want and bare can be made equal by right values, there are none.
+abbrev pub Tries : Table → Run → List ℕ → List ℕ → List ℕ → Type 0
+Tries T ev rep want bare = WellFormed T ev → Enough T ev (classAt rep) (On want) (On bare)
 
 -- The plan r is the plan `best`, which is not ready, or it tries x.
 pub data Better (best : Choice) (x : Trial) (r : Choice) : Type 0 where
   old : best .ready ≡ false → r ≡ best → Better best x r
-  new : r .ready ≡ false → r .trial ≡ x → Better best x r
+  new : r .ready ≡ false → r .want ≡ x .want → r .bare ≡ x .bare → Better best x r
 
 -- Ready: what is to be made before position `upto` is built there. Else what the plan tries is enough.
 pub record Planned (T : Table) (ev : Run) (rep : List ℕ) (upto : ℕ) (pl : Choice) : Type 0 where
   pub ready : pl .ready ≡ true → (q t : ℕ) → q < upto → ev q ≡ some (MK t) → Mark T (classAt rep) ev q built t
-  pub tries : pl .ready ≡ false → Tries T ev rep (pl .trial)
+  pub tries : pl .ready ≡ false → Tries T ev rep (pl .want) (pl .bare)
 
 -- The same for all positions.
 pub record Plans (T : Table) (ev : Run) (rep : List ℕ) (pl : Choice) : Type 0 where
   pub ready : pl .ready ≡ true → (q t : ℕ) → ev q ≡ some (MK t) → Mark T (classAt rep) ev q built t
-  pub tries : pl .ready ≡ false → Tries T ev rep (pl .trial)
+  pub tries : pl .ready ≡ false → Tries T ev rep (pl .want) (pl .bare)
 
 -- The marks r are those at each position at which one may start from the marks seens; if fresh, where the rows seens and builts are the marks.
 pub record Reopened (T : Table) (rep : List ℕ) (fresh : Bool) (seens builts : List ℕ) (r : Marks) : Type 0 where

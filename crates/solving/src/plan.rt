@@ -32,12 +32,14 @@ pub struct Trial {
     pub bare: [u8; 129],
 }
 
-// The plan of a step: if ready, nothing is to be tried. The position and the load are guides only.
+// The plan of a step: if ready, nothing is to be tried. The position, the load and the number of live pairs are guides only.
 pub struct Choice {
     pub ready: bool,
     pub at: usize,
     pub load: usize,
-    pub trial: Trial,
+    pub pairs: u8,
+    pub want: [u8; 129],
+    pub bare: [u8; 129],
 }
 
 // What is known before a position: the marks of what is seen and built, what is granted, and the best plan so far.
@@ -227,11 +229,15 @@ fn better(best: Choice, trial: Trial, p: usize, dead: u16) -> Choice
     ensures { λ r. ⌜ Better best trial r ⌝ }
 {
     let load = load_of(trial.pairs, dead);
+    let want = trial.want;
+    let bare = trial.bare;
     let new = Choice {
         ready: false,
         at: p,
         load: load,
-        trial: trial,
+        pairs: trial.pairs,
+        want: want,
+        bare: bare,
     };
     if best.ready {
         return new;
@@ -422,7 +428,7 @@ fn enough(best: Choice) -> bool
     if best.ready {
         return false;
     }
-    best.trial.pairs <= 1
+    best.pairs <= 1
 }
 
 // The plan of a step: ready if everything that is to be made is built. Positions with dead ends before are taken sooner.
@@ -459,11 +465,9 @@ pub fn plan<'a>(
             ready: true,
             at: 0,
             load: 0,
-            trial: Trial {
-                pairs: 0,
-                want: none,
-                bare: none,
-            },
+            pairs: 0,
+            want: none,
+            bare: none,
         },
     };
     let mut p = 0;

@@ -148,12 +148,11 @@ fn search<'a, 'b>(
             rep: rep,
         };
     }
-    let trial = pl.trial;
-    count_dead(&mut *dead, pl.at, trial.pairs);
+    count_dead(&mut *dead, pl.at, pl.pairs);
     let mut c = 0;
     let mut d = 0;
     loop {
-        let h = next_child(kind, first, second, n, rep, &trial.want, &trial.bare, c, d);
+        let h = next_child(kind, first, second, n, rep, &pl.want, &pl.bare, c, d);
         if !h.ok {
             return Found {
                 yes: false,

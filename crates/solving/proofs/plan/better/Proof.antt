@@ -9,10 +9,10 @@ load-of-requires : tie.Need-load-of-requires
 load-of-requires c κs = search needs
 
 returns : tie.Need-returns
-returns c = Better.new refl refl
+returns c = Better.new refl refl refl
 
 returns-2 : tie.Need-returns-2
-returns-2 c = Better.new refl refl
+returns-2 c = Better.new refl refl refl
 
 returns-3 : tie.Need-returns-3
 returns-3 c = Better.old (c .before .before .if1 .left) refl

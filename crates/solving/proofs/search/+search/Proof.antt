@@ -30,11 +30,11 @@ abbrev search-below : ℕ → In 2 search-kinds.ps
 search-below t = and 2 search-kinds.ps (falls 2 search-kinds.ps _<_ μ-search t) search′.Pre
 
 abbrev Inv-loop : search-lts.InvT-loop
-Inv-loop kind first second n ekind ecell count dead₀ rep trial c₀ d₀ dead c d = Tried (tableAt kind first second) n (runAt count ekind ecell) rep (trial .want) (trial .bare)
+Inv-loop kind first second n ekind ecell count dead₀ rep pl c₀ d₀ dead c d = Tried (tableAt kind first second) n (runAt count ekind ecell) rep (pl .want) (pl .bare)
     (place c d) × (d ≤ 128)
 
 abbrev μ-loop : search-lts.MeasureT-loop
-μ-loop kind first second n ekind ecell count dead₀ rep trial c₀ d₀ dead c d = 16385 - place c d
+μ-loop kind first second n ekind ecell count dead₀ rep pl c₀ d₀ dead c d = 16385 - place c d
 
 -- A call with t classes, and what the functions that it calls ask and say.
 module _ (t : ℕ) where
@@ -61,47 +61,47 @@ module _ (t : ℕ) where
 
   loop-holds : search-lts.Need-loop-holds claims (search-at t) search′.Post Inv-loop μ-loop
   loop-holds c =
-      let p = c .before .before .before .before in
+      let p = c .before .before .before in
       let a = p .before .before .before .args in
-      (tried-none (tableAt (a .kind .now) (a .first .now) (a .second .now)) (a .n) (runAt (a .count) (a .ekind .now) (a .ecell .now)) (a .t9) (p .plan .result .trial .want) (p .plan .result .trial .bare), omega arith)
+      (tried-none (tableAt (a .kind .now) (a .first .now) (a .second .now)) (a .n) (runAt (a .count) (a .ekind .now) (a .ecell .now)) (a .t9) (p .plan .result .want) (p .plan .result .bare), omega arith)
 
   next-child-requires : search-lts.Need-next-child-requires claims (search-at t) search′.Post Inv-loop μ-loop
   next-child-requires c κs =
       let l = c .before .before .before in
-      let s = l .before .before .before .before .before .before .before .before in
+      let s = l .before .before .before .before .before .before .before in
       (s .pre .1 .0, (s .pre .1 .1 .1 .1 .kept, l .loop .inv .1))
 
   returns-2 : search-lts.Need-returns-2 claims (search-at t) search′.Post Inv-loop μ-loop
   returns-2 c =
       let h = c .before .before in
       let l = h .before .before .before .before in
-      let i = l .before .before .before .before in
+      let i = l .before .before .before in
       let p = i .before in
       let s = p .before .before .before in
       let a = s .args in
       let pl = p .plan .result in
       searched-no (s .pre .1 .0) (runAt (a .count) (a .ekind .now) (a .ecell .now)) (s .pre .1 .1 .1 .1) (s .pre .1 .1 .1 .0) pl _ (p .plan .ensures) (i .if1 .left) refl
-      (tried-all (tableAt (a .kind .now) (a .first .now) (a .second .now)) (a .n) (runAt (a .count) (a .ekind .now) (a .ecell .now)) (a .t9) (pl .trial .want) (pl .trial .bare) (l .loop .c) (l .loop .d) (l .loop .inv .0) (h .next-child .result) (h .next-child .ensures)
+      (tried-all (tableAt (a .kind .now) (a .first .now) (a .second .now)) (a .n) (runAt (a .count) (a .ekind .now) (a .ecell .now)) (a .t9) (pl .want) (pl .bare) (l .loop .c) (l .loop .d) (l .loop .inv .0) (h .next-child .result) (h .next-child .ensures)
       (not-true _ (c .if2 .taken)))
 
   search-requires : search-lts.Need-search-requires claims (search-at t) search′.Post Inv-loop μ-loop
   search-requires c κs =
       let h = c .before .before .before .before in
-      let s = h .before .before .before .before .before .before .before .before .before .before .before .before in
+      let s = h .before .before .before .before .before .before .before .before .before .before .before in
       let ok : h .next-child .result .ok ≡ true = not-false _ (c .before .before .if2 .left) in
       (omega (arith, h .next-child .ensures .fewer ok, s .pre .0), (s .pre .1 .0, (s .pre .1 .1 .0, (s .pre .1 .1 .1 .0, h .next-child .ensures .solved ok))))
 
   returns-3 : search-lts.Need-returns-3 claims (search-at t) search′.Post Inv-loop μ-loop
   returns-3 c =
       let h = c .before .before .before .before .before .before in
-      let a = h .before .before .before .before .before .before .before .before .before .before .before .before .args in
+      let a = h .before .before .before .before .before .before .before .before .before .before .before .args in
       searched-child (tableAt (a .kind .now) (a .first .now) (a .second .now)) (a .n) (runAt (a .count) (a .ekind .now) (a .ecell .now)) (a .t9) (h .next-child .result .rep) (c .before .search .result) (c .before .search .ensures) (c .if3 .taken)
 
   loop-less : search-lts.Need-loop-less claims (search-at t) search′.Post Inv-loop μ-loop
   loop-less c =
       let i = c .before .before .before .before in
       let h = i .before .before in
-      let s = h .before .before .before .before .before .before .before .before .before .before .before .before in
+      let s = h .before .before .before .before .before .before .before .before .before .before .before in
       let w = h .next-child .ensures .later (not-false _ (i .if2 .left)) in
       omega (arith, w .0, w .1, w .2, s .pre .1 .0 .few)
 
@@ -110,11 +110,11 @@ module _ (t : ℕ) where
       let i = c .before .before .before .before in
       let h = i .before .before in
       let l = h .before .before .before .before in
-      let s = l .before .before .before .before .before .before .before .before in
+      let s = l .before .before .before .before .before .before .before in
       let a = s .args in
-      let pl = l .before .before .before .before .before .plan .result in
+      let pl = l .before .before .before .before .plan .result in
       let ok = not-false _ (i .if2 .left) in (
-        tried-next (tableAt (a .kind .now) (a .first .now) (a .second .now)) (a .n) (runAt (a .count) (a .ekind .now) (a .ecell .now)) (a .t9) (pl .trial .want) (pl .trial .bare) (l .loop .c) (l .loop .d) (l .loop .inv .0) (h .next-child .result) (h .next-child .ensures) ok
+        tried-next (tableAt (a .kind .now) (a .first .now) (a .second .now)) (a .n) (runAt (a .count) (a .ekind .now) (a .ecell .now)) (a .t9) (pl .want) (pl .bare) (l .loop .c) (l .loop .d) (l .loop .inv .0) (h .next-child .result) (h .next-child .ensures) ok
             (c .before .search .ensures .none (c .if3 .left)),
         omega (arith, h .next-child .ensures .later ok .2, s .pre .1 .0 .few),
       )
