@@ -3,7 +3,7 @@
 # reply differs; otherwise everything that compare says is printed.
 set -euo pipefail
 cd "$(dirname "$0")"
-(cd .. && rt staticlib desk | tail -n 1)
+(cd .. && rt staticlib prismfleece | tail -n 1)
 PRISMFLEECE_LIB_DIR="$(cd ../target/staticlib && pwd)" cargo build --release --offline --quiet
 log=$(mktemp)
 trap 'rm -f "$log"' EXIT

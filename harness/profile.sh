@@ -16,7 +16,7 @@ while [[ "${1:-}" == --* ]]; do
 done
 [ $# -gt 0 ] || set -- ""
 for name in prismfleece_run casefile::read_case classes::start classes::settle solving::search::search; do
-    grep -qaF "$name" target/release/bench || { echo "target/release/bench has no function $name of its own: build it over libdesk.a" >&2; exit 1; }
+    grep -qaF "$name" target/release/bench || { echo "target/release/bench has no function $name of its own: build it over libprismfleece.a" >&2; exit 1; }
 done
 work=$(mktemp -d)
 trap 'rm -rf "$work"' EXIT

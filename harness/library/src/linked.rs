@@ -1,4 +1,4 @@
-//! The library linked as `libdesk.a`.
+//! The library linked as `libprismfleece.a`.
 
 mod face {
     extern "C" {

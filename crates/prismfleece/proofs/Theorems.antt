@@ -18,12 +18,12 @@ use Rattle.reducing.proofs.Theorems.{reduce-settled}
 use Rattle.running.specs.declared.Solved.{Solved}
 use Rattle.running.specs.Promise.{RunPromise}
 use Rattle.running.proofs.Theorems.{run-settled}
-use Rattle.desk.specs.Numbers.{equateNumber, EquateTold, runNumber, RunTold, checkNumber, CheckTold, marksNumber, MarksTold, reduceNumber, ReduceTold}
-use Rattle.desk.proofs.EquateLaws.{equate-fits, equate-tells}
-use Rattle.desk.proofs.RunLaws.{run-fits, run-tells}
-use Rattle.desk.proofs.CheckLaws.{check-fits, check-tells}
-use Rattle.desk.proofs.MarksLaws.{marks-fits, marks-tells}
-use Rattle.desk.proofs.ReduceLaws.{reduce-fits, reduce-tells}
+use Rattle.prismfleece.specs.Numbers.{equateNumber, EquateTold, runNumber, RunTold, checkNumber, CheckTold, marksNumber, MarksTold, reduceNumber, ReduceTold}
+use Rattle.prismfleece.proofs.EquateLaws.{equate-fits, equate-tells}
+use Rattle.prismfleece.proofs.RunLaws.{run-fits, run-tells}
+use Rattle.prismfleece.proofs.CheckLaws.{check-fits, check-tells}
+use Rattle.prismfleece.proofs.MarksLaws.{marks-fits, marks-tells}
+use Rattle.prismfleece.proofs.ReduceLaws.{reduce-fits, reduce-tells}
 
 -- ---- a number tells its reply: replies to whatever inputs that have one number are one
 

@@ -11,8 +11,8 @@ use Rattle.model.specs.Format.{Reading, readFile}
 use Rattle.running.specs.declared.Solved.{Solved}
 use Rattle.running.specs.declared.Solved.the-variants.{Refused, No, Yes}
 use Rattle.running.specs.Promise.{RunPromise}
-use Rattle.desk.specs.Numbers.{runNumber}
-use Rattle.desk.proofs.Told.{Told, refusal, small, number, Fits, tells, unread-fits, few, cells-fit}
+use Rattle.prismfleece.specs.Numbers.{runNumber}
+use Rattle.prismfleece.proofs.Told.{Told, refusal, small, number, Fits, tells, unread-fits, few, cells-fit}
 
 abbrev pub told : Solved → Told
 told (Refused n p) = refusal n p

@@ -1,11 +1,11 @@
 -- The number of each reply, which fits because its place is at most 899.
 use mathlib.Core.Path.{sym, _∙_, ap, subst}
-use Rattle.desk.specs.Numbers.{checkNumber}
-use Rattle.desk.proofs.Told.{Fits}
-use Rattle.desk.proofs.CheckLaws.{told, check-fits}
+use Rattle.prismfleece.specs.Numbers.{checkNumber}
+use Rattle.prismfleece.proofs.Told.{Fits}
+use Rattle.prismfleece.proofs.CheckLaws.{told, check-fits}
 use borrow.Author.Needs.{needs}
-use Rattle.desk.proofs.prismfleece_check.Statement.{statement}
-use Rattle.desk.proofs.prismfleece_check.Tie as tie
+use Rattle.prismfleece.proofs.prismfleece_check.Statement.{statement}
+use Rattle.prismfleece.proofs.prismfleece_check.Tie as tie
 
 judge-requires : tie.Need-judge-requires
 judge-requires c κs = search needs

@@ -1,12 +1,12 @@
 -- The number of each reply, which fits because its place and its length are at most 899.
 use mathlib.Core.Path.{sym, _∙_, ap, subst}
 use native.Mathlib.Omega.{arith}
-use Rattle.desk.specs.Numbers.{equateNumber}
-use Rattle.desk.proofs.Told.{Fits}
-use Rattle.desk.proofs.EquateLaws.{told, equate-fits}
+use Rattle.prismfleece.specs.Numbers.{equateNumber}
+use Rattle.prismfleece.proofs.Told.{Fits}
+use Rattle.prismfleece.proofs.EquateLaws.{told, equate-fits}
 use borrow.Author.Needs.{needs}
-use Rattle.desk.proofs.prismfleece_equate.Statement.{statement}
-use Rattle.desk.proofs.prismfleece_equate.Tie as tie
+use Rattle.prismfleece.proofs.prismfleece_equate.Statement.{statement}
+use Rattle.prismfleece.proofs.prismfleece_equate.Tie as tie
 
 equate-requires : tie.Need-equate-requires
 equate-requires c κs = search needs

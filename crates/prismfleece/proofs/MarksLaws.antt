@@ -11,8 +11,8 @@ use Rattle.model.specs.Format.{Reading, readFile, firstVariable}
 use Rattle.building.specs.declared.Marked.{Marked}
 use Rattle.building.specs.declared.Marked.the-variants.{Refused, Marks}
 use Rattle.building.specs.Promise.{MarksPromise}
-use Rattle.desk.specs.Numbers.{marksNumber}
-use Rattle.desk.proofs.Told.{Told, refusal, small, number, Fits, tells, unread-fits, few, cells-fit, variable-fits}
+use Rattle.prismfleece.specs.Numbers.{marksNumber}
+use Rattle.prismfleece.proofs.Told.{Told, refusal, small, number, Fits, tells, unread-fits, few, cells-fit, variable-fits}
 
 abbrev pub told : Marked → Told
 told (Refused n p) = refusal n p

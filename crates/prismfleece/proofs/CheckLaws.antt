@@ -13,8 +13,8 @@ use Rattle.judging.specs.declared.Judged.{Judged}
 use Rattle.judging.specs.declared.Judged.the-variants.{Refused, Wrong, Right}
 use Rattle.judging.specs.Promise.{FormOf, JudgePromise}
 use Rattle.judging.proofs.PromiseLaws.{form?}
-use Rattle.desk.specs.Numbers.{checkNumber}
-use Rattle.desk.proofs.Told.{Told, refusal, small, number, Fits, tells, unread-fits, few, cells-fit}
+use Rattle.prismfleece.specs.Numbers.{checkNumber}
+use Rattle.prismfleece.proofs.Told.{Told, refusal, small, number, Fits, tells, unread-fits, few, cells-fit}
 
 abbrev pub told : Judged → Told
 told (Refused n p) = refusal n p

@@ -7,7 +7,7 @@ use reducing::Reduced;
 use running::Solved;
 ghost use mathlib.Core.Path.{_≡_};
 ghost use Prim.Native.Nat.{_≤_};
-ghost use Rattle.desk.specs.Numbers.{refusalNumber, EquateTold, RunTold, CheckTold, MarksTold, ReduceTold};
+ghost use Rattle.prismfleece.specs.Numbers.{refusalNumber, EquateTold, RunTold, CheckTold, MarksTold, ReduceTold};
 
 // The number of a refusal.
 fn refusal(number: u8, place: usize) -> u64

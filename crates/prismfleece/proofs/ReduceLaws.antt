@@ -13,8 +13,8 @@ use Rattle.theory.proofs.Reduced.{reduced-fits}
 use Rattle.reducing.specs.declared.Reduced.{Reduced}
 use Rattle.reducing.specs.declared.Reduced.the-variants.{Refused, Reduced as Written}
 use Rattle.reducing.specs.Promise.{ReducePromise}
-use Rattle.desk.specs.Numbers.{reduceNumber}
-use Rattle.desk.proofs.Told.{Told, refusal, small, number, Fits, tells, unread-fits, variable-fits}
+use Rattle.prismfleece.specs.Numbers.{reduceNumber}
+use Rattle.prismfleece.proofs.Told.{Told, refusal, small, number, Fits, tells, unread-fits, variable-fits}
 
 abbrev pub told : Reduced → Told
 told (Refused n p) = refusal n p

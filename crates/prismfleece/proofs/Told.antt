@@ -10,7 +10,7 @@ use Rattle.model.specs.Format.{Reading, readFile, firstVariable}
 use Rattle.model.proofs.Accepted.{accepted-file}
 use Rattle.model.proofs.Places.{refused-place}
 use Rattle.model.proofs.Variables.{variable-first}
-use Rattle.desk.specs.Numbers.{refusalNumber}
+use Rattle.prismfleece.specs.Numbers.{refusalNumber}
 
 -- A refusal with its number and place, or a number of its own.
 pub data Told : Type 0 where

@@ -1,12 +1,12 @@
 -- The number of each reply, which fits because its place and its length are at most 899.
 use mathlib.Core.Path.{sym, _∙_, ap, subst}
 use native.Mathlib.Omega.{arith}
-use Rattle.desk.specs.Numbers.{runNumber}
-use Rattle.desk.proofs.Told.{Fits}
-use Rattle.desk.proofs.RunLaws.{told, run-fits}
+use Rattle.prismfleece.specs.Numbers.{runNumber}
+use Rattle.prismfleece.proofs.Told.{Fits}
+use Rattle.prismfleece.proofs.RunLaws.{told, run-fits}
 use borrow.Author.Needs.{needs}
-use Rattle.desk.proofs.prismfleece_run.Statement.{statement}
-use Rattle.desk.proofs.prismfleece_run.Tie as tie
+use Rattle.prismfleece.proofs.prismfleece_run.Statement.{statement}
+use Rattle.prismfleece.proofs.prismfleece_run.Tie as tie
 
 run-requires : tie.Need-run-requires
 run-requires c κs = search needs

@@ -11,8 +11,8 @@ use Rattle.model.specs.Format.{Reading, readFile}
 use Rattle.equating.specs.declared.Equated.{Equated}
 use Rattle.equating.specs.declared.Equated.the-variants.{Refused, No, Listed}
 use Rattle.equating.specs.Promise.{EquatePromise, Asked}
-use Rattle.desk.specs.Numbers.{equateNumber}
-use Rattle.desk.proofs.Told.{Told, refusal, small, number, Fits, tells, unread-fits, few, cells-fit}
+use Rattle.prismfleece.specs.Numbers.{equateNumber}
+use Rattle.prismfleece.proofs.Told.{Told, refusal, small, number, Fits, tells, unread-fits, few, cells-fit}
 
 abbrev pub told : Equated → Told
 told (Refused n p) = refusal n p
