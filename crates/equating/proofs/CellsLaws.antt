@@ -9,10 +9,10 @@ use native.Mathlib.Omega.{arith}
 use lib.ListN.{length, getD}
 use Rattle.model.specs.Message.{atom}
 use Rattle.model.specs.Case.{VA, Table, message}
-use Rattle.model.specs.Values.{Equates}
+use Rattle.model.specs.Values.{Equates, EquatingList}
 use Rattle.model.specs.Stored.{tableAt}
 use Rattle.model.specs.Replies.{laid}
-use Rattle.model.proofs.Read.{clash, message-self}
+use Rattle.model.proofs.Read.{clash, message-self, var?}
 use Rattle.model.proofs.Stored.{var-kind, kind-var}
 use Rattle.theory.specs.Cells.{Rows, classAt}
 use Rattle.theory.proofs.Answers.{equate-yes}
@@ -23,7 +23,7 @@ use Rattle.classes.specs.Twins.{Start}
 use Rattle.classes.proofs.RowLaws.{class-low}
 use Rattle.classes.proofs.SolvedLaws.{solved-grounds}
 use Rattle.equating.specs.declared.Equated.the-variants.{Refused, No, Listed}
-use Rattle.equating.specs.Cells.{listOf, Never, ListEquates, CellsEquated}
+use Rattle.equating.specs.Cells.{listOf, Never, CellsEquated}
 use Rattle.equating.proofs.ListLaws.{length-listOf, listOf-at, listOf-past, entry-var, entry-own}
 use Rattle.equating.proofs.EndsLaws.{equates-same}
 
@@ -63,7 +63,7 @@ module _ (n : ℕ) (T : Table) (a b : ℕ) (before : List ℕ) where
     listed = λ _ _ _ e. clash (cc);
   }
 
-  pub reply-list : a < n → b < n → n ≤ length before → (list after : List ℕ) → ListEquates n T a b list → after ≡ laid list before →
+  pub reply-list : a < n → b < n → n ≤ length before → (list after : List ℕ) → EquatingList T n a b list → after ≡ laid list before →
       CellsEquated n T a b before (Listed n) after
   reply-list h k r list after w e = record {
     outside = λ o. not-outside h k o;
@@ -91,6 +91,13 @@ module _ (n : ℕ) (kinds firsts seconds : List ℕ) (w : Rows n kinds firsts se
     | no h ↦ listOf-past kinds rep n c c (omega arith)
   ]
 
+  -- Both are cells of the table, as a class is named by one.
+  list-inside : (rep : List ℕ) → ((c : ℕ) → c < n → classAt rep c < n) → (c : ℕ) → c < n → getD (listOf kinds rep n) c c < n
+  list-inside rep inside c h = elim (var? (T c)) [
+    | inl t ↦ (let l = inside c h in let z = list-var rep c t in omega arith)
+    | inr s ↦ (let z = list-own rep c s in omega arith)
+  ]
+
   module _ (first : List ℕ) (start : Start n T first) (a b : ℕ) (r : Settled) (u : Unifies n T first a b r) where
     pub classes-never : r .ok ≡ false → Never T a b
     classes-never bad ρ e = let m = message-self T ρ (w .lower) in u .no bad (message T ρ) m (start .met (message T ρ) m) e
@@ -102,9 +109,10 @@ module _ (n : ℕ) (kinds firsts seconds : List ℕ) (w : Rows n kinds firsts se
         equate-yes T (classAt (r .rep)) (λ y. atom 0) τ (s .closed) (s .kept .reps .idem) g a b (w .lower) (s .kept .reps .lowest)
         (λ m mr. (λ e. u .sat good m mr .0 (start .met m mr, e), λ l. u .sat good m mr .1 l .1))
 
-    pub classes-list : r .ok ≡ true → ListEquates n T a b (listOf kinds (r .rep) n)
-    classes-list good = (
-      length-listOf kinds (r .rep) n,
-      list-own (r .rep),
-      equates-same T (classAt (r .rep)) (λ v. getD (listOf kinds (r .rep) n) v v) (list-var (r .rep)) a b (classes-equate good),
-    )
+    pub classes-list : r .ok ≡ true → EquatingList T n a b (listOf kinds (r .rep) n)
+    classes-list good = record {
+      size = length-listOf kinds (r .rep) n;
+      cells = list-inside (r .rep) (u .solved good .kept .inside);
+      own = list-own (r .rep);
+      equates = equates-same T (classAt (r .rep)) (λ v. getD (listOf kinds (r .rep) n) v v) (list-var (r .rep)) a b (classes-equate good);
+    }

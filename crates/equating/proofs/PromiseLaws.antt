@@ -68,7 +68,7 @@ module _ (file : List ℕ) (a b : ℕ) (before : List ℕ) where
 -- A list that equates two cells comes with values that make them equal.
 pub equated-values : (file : List ℕ) (f : File) (a b : ℕ) (list : List ℕ) → readFile file ≡ accepted f → EquatedBy f a b list →
     (ρ : ℕ → Message) × (message (tableOf (f .cells)) ρ a ≡ message (tableOf (f .cells)) ρ b)
-equated-values file f a b list read (size, own, w) = equates-values (tableOf (f .cells)) a b _ (accepted-file file f read .lower) w
+equated-values file f a b list read w = equates-values (tableOf (f .cells)) a b _ (accepted-file file f read .lower) (w .equates)
 
 pub never-equated : (file : List ℕ) (f : File) (a b : ℕ) (list : List ℕ) → readFile file ≡ accepted f → NeverEqual f a b → EquatedBy f a b list → ⊥
 never-equated file f a b list read never w = let (ρ, e) = equated-values file f a b list read w in never ρ e
@@ -80,7 +80,7 @@ module _ (file : List ℕ) (a b : ℕ) (before : List ℕ) (reply : Equated) (af
   listed-front e =
       let (list, w, k) = p .listed f q e in
       let n = length (f .cells) in
-      (subst (EquatedBy f a b) (sym (ap (take n) k ∙ laid-front list before n (w .0))) w, ap (drop n) k ∙ laid-beyond list before n (w .0))
+      (subst (EquatedBy f a b) (sym (ap (take n) k ∙ laid-front list before n (w .size))) w, ap (drop n) k ∙ laid-beyond list before n (w .size))
 
   -- The reply is "no" if no values make the two cells equal.
   pub no-of-never : NeverEqual f a b → reply ≡ No
@@ -108,7 +108,7 @@ module _ (file : List ℕ) (a b : ℕ) (before : List ℕ) (r r′ : Equated) (a
         | yes s ↦ alike (p .short f q s) (p′ .short f q s)
         | no s ↦
             (let room : Answered file a b before f = record { asked = q; room = omega arith } in
-            answers-alike (λ f. EquatedBy f a b) file before f (q .read) (λ list w. w .0) (λ never list w. never-equated file f a b list (q .read) never w)
+            answers-alike (λ f. EquatedBy f a b) file before f (q .read) (λ list w. w .size) (λ never list w. never-equated file f a b list (q .read) never w)
             (replies f room p) (replies f room p′))
       ]
 

@@ -28,10 +28,10 @@ of-r : (P : File → Type 0) → (f : File) × (readFile (bytesOf R) ≡ accepte
 of-r P (f, e, w) = let z : accepted f ≡ accepted fileR = sym e ∙ read-as R in let y : f ≡ fileR = cc in subst P y w
 
 r-never : NeverEqual fileR 0 2
-r-never = of-r (λ f. NeverEqual f 0 2) (starred-hold .1 .1 .1 .1 .1 .1 .1 .1 .1 .1 .1 .1 .1 .1 .1 .1 .1 .1 .0)
+r-never = of-r (λ f. NeverEqual f 0 2) (starred-hold .1 .1 .1 .1 .1 .1 .1 .1 .1 .1 .1 .1 .1 .1 .1 .1 .1 .1 .1 .0)
 
 r-equated : EquatedBy fileR 0 1 (1 ∷ 1 ∷ 2 ∷ [])
-r-equated = of-r (λ f. EquatedBy f 0 1 (1 ∷ 1 ∷ 2 ∷ [])) (starred-hold .1 .1 .1 .1 .1 .1 .1 .1 .1 .1 .1 .1 .1 .1 .1 .1 .1 .1 .1 .0)
+r-equated = of-r (λ f. EquatedBy f 0 1 (1 ∷ 1 ∷ 2 ∷ [])) (starred-hold .1 .1 .1 .1 .1 .1 .1 .1 .1 .1 .1 .1 .1 .1 .1 .1 .1 .1 .1 .1 .0)
 
 -- The entry of the variable is 1: under name 1 both cells are equal, and under name 0 they are not.
 module _ (x : ℕ) (w : EquatedBy fileR 0 1 (x ∷ 1 ∷ 2 ∷ [])) where
@@ -40,13 +40,13 @@ module _ (x : ℕ) (w : EquatedBy fileR 0 1 (x ∷ 1 ∷ 2 ∷ [])) where
 
   holds : (ρ : ℕ → Message) → ρ 0 ≡ atom 1 → ρ 0 ≡ message (tableOf (fileR .cells)) ρ x
   unfolding shown
-  holds ρ e = w .2 .exact (message (tableOf (fileR .cells)) ρ) (message-self (tableOf (fileR .cells)) ρ low) .0 e 0 refl
+  holds ρ e = w .equates .exact (message (tableOf (fileR .cells)) ρ) (message-self (tableOf (fileR .cells)) ρ low) .0 e 0 refl
 
   not-free : x ≡ 0 → ⊥
   unfolding shown
   not-free z =
       let ρ : ℕ → Message = λ v. atom 0 in
-      let e = w .2 .exact (message (tableOf (fileR .cells)) ρ) (message-self (tableOf (fileR .cells)) ρ low) .1 free in
+      let e = w .equates .exact (message (tableOf (fileR .cells)) ρ) (message-self (tableOf (fileR .cells)) ρ low) .1 free in
       clash (cc)
     where
       free : (v : ℕ) → tableOf (fileR .cells) v ≡ VA → message (tableOf (fileR .cells)) (λ v. atom 0) v ≡ message (tableOf (fileR .cells)) (λ v. atom 0) (getD (x ∷ 1 ∷ 2 ∷ []) v v)
@@ -63,13 +63,13 @@ module _ (x : ℕ) (w : EquatedBy fileR 0 1 (x ∷ 1 ∷ 2 ∷ [])) where
   entry-one (suc (suc (suc y))) z = let e = subst (λ y. atom 1 ≡ message (tableOf (fileR .cells)) (λ v. atom 1) y) z (holds (λ v. atom 1) refl) in clash (cc)
 
 r-only : (list : List ℕ) → EquatedBy fileR 0 1 list → list ≡ 1 ∷ 1 ∷ 2 ∷ []
-r-only [] w = absurd (let e = w .0 in omega arith)
-r-only (x ∷ []) w = absurd (let e = w .0 in omega arith)
-r-only (x ∷ y ∷ []) w = absurd (let e = w .0 in omega arith)
-r-only (x ∷ y ∷ z ∷ u ∷ l) w = absurd (let e = w .0 in omega arith)
+r-only [] w = absurd (let e = w .size in omega arith)
+r-only (x ∷ []) w = absurd (let e = w .size in omega arith)
+r-only (x ∷ y ∷ []) w = absurd (let e = w .size in omega arith)
+r-only (x ∷ y ∷ z ∷ u ∷ l) w = absurd (let e = w .size in omega arith)
 r-only (x ∷ y ∷ z ∷ []) w =
-    let second : y ≡ 1 = w .1 1 (λ e. clash (cc)) in
-    let third : z ≡ 2 = w .1 2 (λ e. clash (cc)) in
+    let second : y ≡ 1 = w .own 1 (λ e. clash (cc)) in
+    let third : z ≡ 2 = w .own 2 (λ e. clash (cc)) in
     let w′ : EquatedBy fileR 0 1 (x ∷ 1 ∷ 2 ∷ []) = subst (λ y. EquatedBy fileR 0 1 (x ∷ y ∷ 2 ∷ [])) second (subst (λ z. EquatedBy fileR 0 1 (x ∷ y ∷ z ∷ [])) third w) in
     let first : x ≡ 1 = entry-one x w′ x refl in
     cc

@@ -2,7 +2,7 @@
 use mathlib.Core.Path.{_≡_}
 use mathlib.Core.List.{List}
 use mathlib.Core.Logic.{_↔_}
-use Prim.Native.Nat.{ℕ}
+use Prim.Native.Nat.{ℕ, _<_}
 use lib.ListN.{length, getD, take, drop}
 use Rattle.model.specs.Message.{Message}
 use Rattle.model.specs.Case.{VA, File, tableOf, message}
@@ -29,16 +29,20 @@ module _ (file : List ℕ) (a b : ℕ) (before : List ℕ) (reply : Equated) (af
   -- The list in the buffer: values under which it holds make the two cells equal,
   pub equate-sound : reply ≡ Listed (length (f .cells)) → (ρ : ℕ → Message) → HoldsUnder f (take (length (f .cells)) after) ρ →
       message (tableOf (f .cells)) ρ a ≡ message (tableOf (f .cells)) ρ b
-  equate-sound e ρ = listed-front file a b before reply after p f q e .0 .2 .exact _ (message-self (tableOf (f .cells)) ρ (accepted-file file f (q .asked .read) .lower)) .1
+  equate-sound e ρ = listed-front file a b before reply after p f q e .0 .equates .exact _ (message-self (tableOf (f .cells)) ρ (accepted-file file f (q .asked .read) .lower)) .1
 
   -- it holds under all values that make the two cells equal,
   pub equate-general : reply ≡ Listed (length (f .cells)) → (ρ : ℕ → Message) → message (tableOf (f .cells)) ρ a ≡ message (tableOf (f .cells)) ρ b →
       HoldsUnder f (take (length (f .cells)) after) ρ
-  equate-general e ρ = listed-front file a b before reply after p f q e .0 .2 .exact _ (message-self (tableOf (f .cells)) ρ (accepted-file file f (q .asked .read) .lower)) .0
+  equate-general e ρ = listed-front file a b before reply after p f q e .0 .equates .exact _ (message-self (tableOf (f .cells)) ρ (accepted-file file f (q .asked .read) .lower)) .0
 
   -- and following it never comes round again.
   pub equate-acyclic : reply ≡ Listed (length (f .cells)) → (c : ℕ) → Ends (tableOf (f .cells)) (λ v. getD (take (length (f .cells)) after) v v) c
-  equate-acyclic e = listed-front file a b before reply after p f q e .0 .2 .ends
+  equate-acyclic e = listed-front file a b before reply after p f q e .0 .equates .ends
+
+  -- Each entry is the number of a cell of the file.
+  pub equate-names-cells : reply ≡ Listed (length (f .cells)) → (c : ℕ) → c < length (f .cells) → getD (take (length (f .cells)) after) c c < length (f .cells)
+  equate-names-cells e = listed-front file a b before reply after p f q e .0 .cells
 
   -- No byte beyond it is touched.
   pub equate-kept : reply ≡ Listed (length (f .cells)) → drop (length (f .cells)) after ≡ drop (length (f .cells)) before

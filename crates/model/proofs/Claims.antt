@@ -3,7 +3,7 @@
 use mathlib.Core.Path.{_≡_}
 use mathlib.Core.List.{List, [], _∷_, _++_}
 use Prim.Native.Nat.{ℕ}
-use lib.ListN.{getD}
+use lib.ListN.{length, getD}
 use Rattle.model.specs.Message.{Message}
 use Rattle.model.specs.Case.{File, tableOf, runOf, message}
 use Rattle.model.specs.Values.{RightValues}
@@ -33,10 +33,12 @@ pub data Reply : Type 0 where
   -- reducing: the file of these bytes
   reduced : List ℕ → Reply
 
-infix 68 _gives_
--- A file's bytes, and what is said of it.
+infix 68 _gives_ _takes_
+-- A file's bytes, and what is said of it;
 pub data Claim : Type 0 where
   _gives_ : List ℕ → Reply → Claim
+  -- how many they are
+  _takes_ : List ℕ → ℕ → Claim
 
 -- Under right values the cells v and c show one message.
 abbrev pub AlwaysSame : File → ℕ → ℕ → Type 0
@@ -65,6 +67,7 @@ Said r (reduced bytes) = OfAccepted r (λ f. ReducedTo f bytes)
 -- What a claim says.
 abbrev pub Holds : Claim → Type 0
 Holds (file gives reply) = Said (readFile file) reply
+Holds (file takes n) = length file ≡ n
 
 -- ---- the files
 
@@ -125,6 +128,7 @@ starred =
     ∷ bytesOf B gives reduced (bytesOf B)
     ∷ bytesOf C gives runYes (0 ∷ [])
     ∷ bytesOf D gives runNo
+    ∷ bytesOf E takes 26
     ∷ bytesOf E gives runYes (0 ∷ 1 ∷ 2 ∷ 1 ∷ 4 ∷ [])
     ∷ bytesOf E gives only 3 1
     ∷ bytesOf E gives entry 3 1

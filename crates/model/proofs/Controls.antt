@@ -7,7 +7,7 @@ use Prim.Native.Nat.{ℕ, zero, suc, _≤_, _<_}
 use lib.ListN.{getD}
 use native.Mathlib.Omega.{arith}
 use Rattle.model.specs.Message.{Message, atom, pair, seal, app, Made, Opens, Built, Held}
-use Rattle.model.specs.Case.{Cell, VA, MK, LN, File, Table, Run, tableOf, runOf, shown, message, Reads, Part, Lower, Makable}
+use Rattle.model.specs.Case.{Cell, AT, VA, MK, LN, File, Table, Run, tableOf, runOf, shown, message, Reads, Part, Lower, Makable}
 use Rattle.model.specs.Values.{RightValues, Entry, RightList, Ends, Equates}
 use Rattle.model.specs.Reduce.{Bare, Rest, Inside, whole, deeper}
 use Rattle.model.specs.Format.{Kind, mark, readFile, readFrom, check, checkKind, kindOf, anyOf, variables, Reading, accepted, refused}
@@ -221,7 +221,7 @@ r-unheld L v equates i = no-message-in-itself Held.left (subst (λ x. Inside x v
 -- Cells 0 and 2 of R are not answered with a list.
 pub no-list-to-R : (list : List ℕ) → Holds (bytesOf R gives equateYes 0 2 list) → ⊥
 unfolding shown
-no-list-to-R list (f, e, h) = (let (size, fixed, equates) = subst (λ f. EquatedBy f 0 2 list) (read-one e (read-as R)) h in bound-to (getD list 0 0) refl equates)
+no-list-to-R list (f, e, h) = bound-to (getD list 0 0) refl (subst (λ f. EquatedBy f 0 2 list) (read-one e (read-as R)) h .equates)
   where
     bound-to : (x : ℕ) → getD list 0 0 ≡ x → Equates (tableOf (its R .cells)) 0 2 (λ v. getD list v v) → ⊥
     bound-to zero e equates = r-unheld (λ v. getD list v v) (atom 0) equates (subst (λ x. r-shows (atom 0) 0 ≡ r-shows (atom 0) x) (sym e) refl)
@@ -229,3 +229,7 @@ no-list-to-R list (f, e, h) = (let (size, fixed, equates) = subst (λ f. Equated
     bound-to (suc (suc zero)) e equates =
         no-round (tableOf (its R .cells)) (λ v. getD list v v) 0 refl (subst (λ x. Part (tableOf (its R .cells) x) 0) (sym e) Part.in-left) (equates .ends 0)
     bound-to (suc (suc (suc x))) e equates = r-unheld (λ v. getD list v v) (atom 0) equates (subst (λ x. r-shows (atom 0) 0 ≡ r-shows (atom 0) x) (sym e) refl)
+
+-- An equating list names cells of the file: for a variable and an atom, 200 is no entry, though under any values it shows what the atom shows.
+pub no-entry-beyond-the-cells : EquatedBy (record { cells = VA ∷ AT 0 ∷ []; events = [] }) 0 1 (200 ∷ 1 ∷ []) → ⊥
+no-entry-beyond-the-cells w = let h : 200 < 2 = w .cells 0 (omega arith) in omega arith

@@ -3,10 +3,12 @@ pub mod Pick
 pub mod Finite
 pub mod Steps
 pub mod Read
+pub mod Follow
 pub mod Listed
 pub mod Held
 pub mod Format
 pub mod Accepted
+pub mod Bounded
 pub mod Rows
 pub mod Stored
 pub mod Settled

@@ -1,12 +1,13 @@
--- Laws of lists: what a list with one more element has at a place, members and their places, and a test of some member.
-use mathlib.Core.Path.{_≡_, refl}
+-- Laws of lists: what a list with one more element has at a place, members and their places, a test of some member, and text stored behind text.
+use mathlib.Core.Path.{_≡_, refl, _∙_, ap}
 use mathlib.Core.Logic.{_⊎_, inl, inr}
 use mathlib.Core.Bool.{Bool, true, false, cond}
 use mathlib.Core.Option.{some}
 use mathlib.Core.List.{List, [], _∷_, _++_, List·Memᴰ, List·Memᴰ·head, List·Memᴰ·tail}
-use Prim.Native.Nat.{ℕ, zero, suc, _+_, _<_}
+use Prim.Native.Nat.{ℕ, zero, suc, _+_, _<_, _≤_}
 use native.Mathlib.Omega.{arith}
-use lib.ListN.{length, getD, getElem?, length-append}
+use lib.ListN.{length, getD, getElem?, drop, set, length-append}
+use lib.Seq.{sets, sets-eq}
 use Rattle.model.specs.Format.{anyOf}
 use Rattle.model.proofs.Read.{clash}
 
@@ -84,3 +85,12 @@ module _ {A : Type 0} where
 
   pub none-any : (test : A → Bool) (l : List A) → ((x : A) → List·Memᴰ x l → test x ≡ false) → anyOf test l ≡ false
   none-any test l h = elim (bool? (anyOf test l)) [ inl e ↦ (let (x, m, t) = any-some test l e in true-false t (h x m)) | inr e ↦ e ]
+
+-- ---- text stored behind text
+
+pub sets-append : (vs l ws : List ℕ) (i at : ℕ) → at ≡ i + length vs → sets (sets l i vs) at ws ≡ sets l i (vs ++ ws)
+sets-append [] l ws i at e = (let z : at ≡ i = omega arith in ap (λ k. sets l k ws) z)
+sets-append (v ∷ vs) l ws i at e = sets-append vs (set l i v) ws (suc i) at (omega arith)
+
+pub sets-front : (vs l : List ℕ) → length vs ≤ length l → sets l 0 vs ≡ vs ++ drop (length vs) l
+sets-front vs l h = (let z : 0 + length vs ≡ length vs = omega arith in sets-eq vs l 0 (omega arith) ∙ ap (λ k. vs ++ drop k l) z)

@@ -118,7 +118,7 @@ e-variable P (suc (suc (suc zero))) h e = h
 e-variable P (suc (suc (suc (suc zero)))) h e = clash (cc)
 e-variable P (suc (suc (suc (suc (suc v))))) h e = clash (cc)
 
-e-yes : RightListed (its E) (0 ∷ 1 ∷ 2 ∷ 1 ∷ 4 ∷ [])
+pub e-yes : RightListed (its E) (0 ∷ 1 ∷ 2 ∷ 1 ∷ 4 ∷ [])
 unfolding shown
 e-yes = (
   record { size = refl; entries = λ c. e-entries 1 c (Entry.bound refl (omega arith) (λ e. clash (cc))) },
@@ -181,7 +181,7 @@ i-yes = (record { size = refl; entries = entries }, (messagesOf (its I), reads, 
 cellOf-below : (x : ℕ) → x < 255 → cellOf x ≡ x
 cellOf-below x lt = rw (ne-eqb x 255 (λ e. omega arith))
 
-d-no : NoneRight (its D)
+pub d-no : NoneRight (its D)
 unfolding shown
 d-no ρ right = elim (comp-atom (shut-built (λ x h. absurd (List·Memᴰ·not-nil h)) (built-more (known-among (message (tableOf (its D .cells)) ρ) (its D .events) 0) (right .makes 0 0 refl)))) [
   | inl e ↦ clash (cc)
@@ -214,7 +214,7 @@ unfolding shown
 e-only ρ right = e-sole (message (tableOf (its E .cells)) ρ) refl refl right
 
 -- Of the cells that an entry may name, cell 1 alone shows atom 2.
-e-entry : AlwaysListed (its E) 3 1
+pub e-entry : AlwaysListed (its E) 3 1
 e-entry list (form, (m, reads, equal, right)) = named (getD list 3 0) (form .entries 3 (omega arith)) (sym (equal 3 refl) ∙ e-sole m (cc (reads 2, reads 1, reads 0)) (cc (reads 4, reads 0)) right)
   where
     below : (x : ℕ) → x < 5 → (tableOf (its E .cells) x ≡ VA → ⊥) → m x ≡ atom 2 → x ≡ 1
@@ -277,8 +277,14 @@ r-no ρ e = grows (ρ 0) (atom 1) e
     grows (two h a b) y e = grows a b (cc)
 
 r-yes : EquatedBy (its R) 0 1 (1 ∷ 1 ∷ 2 ∷ [])
-r-yes = (refl, fixed, record { exact = λ m reads. ((λ e. holds m e), (λ h. h 0 refl)); ends = ends })
+r-yes = record { size = refl; cells = inside; own = fixed; equates = record { exact = λ m reads. ((λ e. holds m e), (λ h. h 0 refl)); ends = ends } }
   where
+    inside : (c : ℕ) → c < 3 → getD (1 ∷ 1 ∷ 2 ∷ []) c c < 3
+    inside zero lt = omega arith
+    inside (suc zero) lt = omega arith
+    inside (suc (suc zero)) lt = omega arith
+    inside (suc (suc (suc c))) lt = absurd (omega arith)
+
     holds : (m : ℕ → Message) → m 0 ≡ m 1 → (v : ℕ) → tableOf (its R .cells) v ≡ VA → m v ≡ m (getD (1 ∷ 1 ∷ 2 ∷ []) v v)
     holds m e zero i = e
     holds m e (suc zero) i = clash (cc)
@@ -568,6 +574,7 @@ starred-hold =
     & (its B, read-as B, b-reduced)
     & (its C, read-as C, c-yes)
     & (its D, read-as D, d-no)
+    & refl
     & (its E, read-as E, e-yes)
     & (its E, read-as E, e-only)
     & (its E, read-as E, e-entry)

@@ -3,12 +3,15 @@ use mathlib.Core.Path.{_≡_}
 use mathlib.Core.Logic.{_↔_}
 use mathlib.Core.List.{List, List·Memᴰ}
 use Prim.Native.Nat.{ℕ, _+_, _≤_}
-use lib.ListN.{length, take}
-use Rattle.model.specs.Message.{Message, Built}
-use Rattle.model.specs.Case.{VA, File, Table, Run, Reads, message, Lower, Within, Right}
-use Rattle.model.specs.Values.{RightValues}
+use lib.ListN.{length, getD, take}
+use Rattle.model.specs.Message.{Message, Bounded, Built}
+use Rattle.model.specs.Case.{VA, File, Table, Run, tableOf, runOf, Reads, message, Lower, Within, Right}
+use Rattle.model.specs.Values.{RightValues, cellOf, Form, RightList}
 use Rattle.model.specs.Format.{held, accepted, readFrom, readFile, fileBytes}
-use Rattle.model.proofs.Accepted.{Accepted, accepted-file}
+use Rattle.model.specs.Replies.{HeardOf}
+use Rattle.model.proofs.Accepted.{Accepted, accepted-file, Bytes}
+use Rattle.model.proofs.Bounded.{same-bounded}
+use Rattle.model.proofs.Follow.{Followed, right-iff-followed, form-solid, cells-end}
 use Rattle.model.proofs.Fuel.{Few, fuel-enough}
 use Rattle.model.proofs.Held.{held-within}
 use Rattle.model.proofs.Prefix.{readFile-prefix}
@@ -58,6 +61,18 @@ read-from-prefix = readFile-prefix
 pub read-enough : (n m : ℕ) (rest : List ℕ) (at : ℕ) (f : File) → Few f → 257 ≤ n + length (f .cells) + length (f .events) → 257 ≤ m + length (f .cells) + length (f .events) →
     readFrom n rest at f ≡ readFrom m rest at f
 read-enough = fuel-enough
+
+-- A value list in good form is right exactly if following it from every cell ends, and the messages it comes to are right.
+pub right-list-iff-followed : (s : List ℕ) (f : File) (list : List ℕ) → readFile s ≡ accepted f → Form (tableOf (f .cells)) (length (f .cells)) list →
+    RightList (tableOf (f .cells)) (runOf (f .events)) (λ v. cellOf (getD list v 0)) ↔ Followed f list
+right-list-iff-followed s f list e form =
+    right-iff-followed (tableOf (f .cells)) (λ v. cellOf (getD list v 0))
+    (form-solid (tableOf (f .cells)) (length (f .cells)) list (accepted-file s f e .fewCells) (cells-end (f .cells)) form) (runOf (f .events))
+
+-- Two files let him build the same messages with names below 65,536 and functions below 256 only if they let him build the same of all.
+pub same-of-the-format : (s s′ : List ℕ) (f g : File) → Bytes s → Bytes s′ → readFile s ≡ accepted f → readFile s′ ≡ accepted g →
+    ((x : Message) → Bounded x → Built (HeardOf f) x ↔ Built (HeardOf g) x) → (x : Message) → Built (HeardOf f) x ↔ Built (HeardOf g) x
+same-of-the-format = same-bounded
 
 -- What document 01 says of each starred file holds of the definitions.
 pub starred-files : All Holds starred

@@ -1,6 +1,7 @@
 -- Messages, and what the intruder can build (document 01, "Messages" and "What the intruder can build").
--- One, Two: the kinds by their number of parts; Message; pair, seal, app: short names; Made, Opens: the steps; Built: what he can build.
-use Prim.Native.Nat.{ℕ}
+-- One, Two: the kinds by their number of parts; Message; pair, seal, app: short names; Bounded: names and functions of the format; Made, Opens: the steps; Built: what he
+-- can build.
+use Prim.Native.Nat.{ℕ, _<_}
 
 -- The kinds of messages with one part: an application of the function f, 0 to 255.
 pub data One : Type 0 where
@@ -27,6 +28,12 @@ seal b k = two Seal b k
 -- The function f applied to a.
 abbrev pub app : ℕ → Message → Message
 app f a = one (App f) a
+
+-- The names of x are below 65,536 and its functions below 256. The definitions bound neither; that nothing hangs on those beyond is proved (`same-bounded`).
+abbrev pub Bounded : Message → Type 0
+Bounded (atom n) = n < 65536
+Bounded (one (App f) a) = (f < 256) × Bounded a
+Bounded (two h a b) = Bounded a × Bounded b
 
 -- The steps that compose. `Made x a b`: a and b, built, give x; an application has one part, which stands for both.
 pub data Made : Message → Message → Message → Type 0 where

@@ -6,8 +6,8 @@ use mathlib.Core.Option.{none}
 use Prim.Native.Nat.{ℕ, _<_}
 use lib.ListN.{length, getD, drop}
 use Rattle.model.specs.Message.{Message, atom, Built}
-use Rattle.model.specs.Case.{VA, LN, File, tableOf, runOf, message, Heard}
-use Rattle.model.specs.Values.{RightValues, cellOf, Form, RightList, Equates}
+use Rattle.model.specs.Case.{LN, File, tableOf, runOf, message, Heard}
+use Rattle.model.specs.Values.{RightValues, cellOf, Form, RightList, EquatingList}
 use Rattle.model.specs.Reduce.{Reduces}
 use Rattle.model.specs.Format.{readFile, accepted, firstVariable, fileBytes}
 
@@ -19,10 +19,9 @@ RightListed f list = Form (tableOf (f .cells)) (length (f .cells)) list × Right
 abbrev pub NoneRight : File → Type 0
 NoneRight f = (ρ : ℕ → Message) → RightValues (tableOf (f .cells)) (runOf (f .events)) ρ → ⊥
 
--- The list, one entry for each cell and its own number for each that is no variable, equates the cells a and b.
+-- The list is an equating list of the file's cells a and b.
 abbrev pub EquatedBy : File → ℕ → ℕ → List ℕ → Type 0
-EquatedBy f a b list =
-    (length list ≡ length (f .cells)) × ((c : ℕ) → (tableOf (f .cells) c ≡ VA → ⊥) → getD list c c ≡ c) × Equates (tableOf (f .cells)) a b (λ v. getD list v v)
+EquatedBy f = EquatingList (tableOf (f .cells)) (length (f .cells))
 
 -- No values make the cells a and b equal.
 abbrev pub NeverEqual : File → ℕ → ℕ → Type 0

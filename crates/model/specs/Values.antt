@@ -1,5 +1,5 @@
 -- Values, value lists and equating lists (document 01, "Equating", "Run" and "List check").
--- RightValues; cellOf, Form, RightList: value lists; Ends, Equates: equating lists.
+-- RightValues; cellOf, Form, RightList: value lists; Ends, Equates, EquatingList: equating lists.
 use mathlib.Core.Path.{_≡_}
 use mathlib.Core.Logic.{_↔_}
 use mathlib.Core.Bool.{cond}
@@ -44,3 +44,10 @@ pub data Ends (T : Table) (L : ℕ → ℕ) : ℕ → Type 0 where
 pub record Equates (T : Table) (a b : ℕ) (L : ℕ → ℕ) : Type 0 where
   pub exact : (m : ℕ → Message) → Reads T m m → (m a ≡ m b) ↔ ((v : ℕ) → T v ≡ VA → m v ≡ m (L v))
   pub ends : (c : ℕ) → Ends T L c
+
+-- A list of one entry for each of n cells, the number of a cell, for each that is no variable its own; and it equates the cells a and b.
+pub record EquatingList (T : Table) (n a b : ℕ) (list : List ℕ) : Type 0 where
+  pub size : length list ≡ n
+  pub cells : (c : ℕ) → c < n → getD list c c < n
+  pub own : (c : ℕ) → (T c ≡ VA → ⊥) → getD list c c ≡ c
+  pub equates : Equates T a b (λ v. getD list v v)

@@ -6,11 +6,12 @@ use Prim.Native.Nat.{ℕ, zero, suc, _+_, _*_, _/_, _%_, _≤_, _<_}
 use native.Mathlib.Omega.{arith}
 use native.Mathlib.Numerals.{add-one}
 use lib.ListN.{length, getD, drop, set, length-append}
-use lib.Seq.{sets, sets-eq, length-sets}
+use lib.Seq.{sets, length-sets}
 use borrow.Author.Tests.{eq-eqb, ne-eqb}
 use Rattle.model.specs.Case.{Cell, LN}
 use Rattle.model.specs.Format.{Kind, mark, cellBytes, eventBytes, joined, fileBytes}
 use Rattle.model.specs.Stored.{cellAt, tableAt}
+use Rattle.model.proofs.Listed.{sets-append, sets-front}
 use Rattle.reducing.specs.declared.Plan.{Plan}
 use Rattle.reducing.specs.Plan.{upTo, marked, planned, Sized}
 use Rattle.reducing.specs.Bytes.{kindMark}
@@ -65,13 +66,6 @@ cell-length (suc (suc (suc zero))) x y v = refl
 cell-length (suc (suc (suc (suc k)))) x y v = refl
 
 -- ---- records in a row
-pub sets-append : (vs l ws : List ℕ) (i at : ℕ) → at ≡ i + length vs → sets (sets l i vs) at ws ≡ sets l i (vs ++ ws)
-sets-append [] l ws i at e = (let z : at ≡ i = omega arith in ap (λ k. sets l k ws) z)
-sets-append (v ∷ vs) l ws i at e = sets-append vs (set l i v) ws (suc i) at (omega arith)
-
-pub sets-front : (vs l : List ℕ) → length vs ≤ length l → sets l 0 vs ≡ vs ++ drop (length vs) l
-sets-front vs l h = (let z : 0 + length vs ≡ length vs = omega arith in sets-eq vs l 0 (omega arith) ∙ ap (λ k. vs ++ drop k l) z)
-
 joined-append : {A : Type 0} (bytes : A → List ℕ) (l k : List A) → joined bytes (l ++ k) ≡ joined bytes l ++ joined bytes k
 unfolding joined
 joined-append bytes [] k = refl

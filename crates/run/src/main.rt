@@ -1,71 +1,72 @@
-// Reads a case file from standard input, of any length, and prints the reply to its run: counts, "yes" or "no", and the values of the variables.
-// The reply depends on the first 899 bytes only, so a buffer of 2048 is enough.
-use casefile::events::Verdict;
+// Reads a case file from standard input, of any length, and prints the reply to its run. What cannot be read or written is told on standard error.
+use libc::STDERR_FILENO;
 use libc::STDIN_FILENO;
-use printing::print;
-use printing::print_number;
-use printing::print_refused;
-use running::Solved;
+use libc::STDOUT_FILENO;
+ghost use Prim.Native.Nat.{_≤_};
+ghost use lib.ListN.{length};
+ghost use Rattle.run.specs.Answers.{Filled, Answers};
 
-// How many cells and events the file has.
-fn print_counts(cells: usize, events: usize) {
-    print(b"cells ");
-    print_number(cells);
-    print(b" events ");
-    print_number(events);
-    print(b"\n");
+// What reading came to: the number of bytes at the front of the buffer, or that a read failed.
+enum Input {
+    Bytes(usize),
+    Failed,
 }
 
-// The value of the variable v: a cell, or his own name.
-fn print_value(v: usize, entry: u8) {
-    print(b"v");
-    print_number(v);
-    print(b" = ");
-    if entry == 255 {
-        print(b"own\n");
-    } else {
-        print_number(entry as usize);
-        print(b"\n");
+// One read, of at most as many bytes as the buffer holds.
+fn read_some(rest: &mut [u8]) -> Input
+    ensures { λ r. ⌜ Filled (now (rest .exit)) r ⌝ }
+{
+    let got = libc::read(STDIN_FILENO, rest);
+    if got < 0 {
+        return Input::Failed;
     }
+    Input::Bytes(io::count(got, rest))
 }
 
-// One line for each variable of a table of n cells, in rising order.
-fn print_values(kind: &[u8; 128], list: [u8; 128], n: usize) {
-    let mut v: usize = 0;
-    while v < n {
-        if v < 128 {
-            if kind[v] == 1 {
-                print_value(v, list[v]);
-            }
+// Reads until the buffer is full or the input ends.
+fn read_start(start: &mut [u8]) -> Input
+    ensures { λ r. ⌜ Filled (now (start .exit)) r ⌝ }
+{
+    let mut done: usize = 0;
+    while done < start.len() {
+        let some = read_some(&mut start[done..]);
+        let Input::Bytes(n) = some else {
+            return Input::Failed;
+        };
+        if n == 0 {
+            return Input::Bytes(done);
         }
-        v += 1;
+        done += n;
     }
+    Input::Bytes(done)
 }
 
-// A refusal; or the counts and the reply to the run.
-fn answer(file: &[u8]) {
-    let case = casefile::read_case(file);
-    let verdict = case.verdict;
-    if let Verdict::Refused(number, place) = verdict {
-        print_refused(number, place);
-        return;
-    }
-    let t = case.table;
-    print_counts(t.cells, case.events.count);
-    let mut list = [0u8; 128];
-    let reply = running::run(file, &mut list);
-    match reply {
-        Solved::Refused(number, place) => print_refused(number, place),
-        Solved::No => print(b"run no\n"),
-        Solved::Yes(n) => {
-            print(b"run yes\n");
-            print_values(&t.kind, list, n);
-        }
+// The reply to an input of which the first n bytes of `start` were read.
+fn answer(start: &[u8], n: usize, out: &mut [u8]) -> usize
+    requires { ⌜ (899 ≤ length (now start)) × (n ≤ length (now start)) × (1437 ≤ length (now out)) ⌝ }
+    ensures { λ r. ⌜ Answers (now (start .entry)) n (now (out .entry)) r (now (out .exit)) ⌝ }
+{
+    printing::write_reply(&start[..n], out)
+}
+
+// Prints it, in one write where the system takes it whole.
+fn print_answer(start: &[u8], n: usize)
+    requires { ⌜ (899 ≤ length (now start)) × (n ≤ length (now start)) ⌝ }
+{
+    let mut out = [0u8; 1437];
+    let size = answer(start, n, &mut out);
+    if !io::write_all(STDOUT_FILENO, &out[..size]) {
+        io::write_all(STDERR_FILENO, b"run: the reply cannot be written\n");
     }
 }
 
 fn main() {
-    let mut input = [0u8; 2048];
-    let n = io::read_full(STDIN_FILENO, &mut input);
-    answer(&input[..n]);
+    let mut start = [0u8; 899];
+    let input = read_start(&mut start);
+    match input {
+        Input::Bytes(n) => print_answer(&start, n),
+        Input::Failed => {
+            io::write_all(STDERR_FILENO, b"run: the input cannot be read\n");
+        }
+    }
 }

@@ -1,0 +1,38 @@
+-- The lines of the variables behind the first two.
+use Rattle.printing.proofs.PutLaws.{put-join}
+use borrow.Author.Needs.{needs}
+use Rattle.printing.proofs.put_yes.Statement.{statement}
+use Rattle.printing.proofs.put_yes.Tie as tie
+
+put-counts-requires : tie.Need-put-counts-requires
+put-counts-requires c κs = search needs
+
+slice-aggregate-put-text : tie.Need-slice-aggregate-put-text
+slice-aggregate-put-text c = search needs
+
+put-text-requires : tie.Need-put-text-requires
+put-text-requires c κs = search needs
+
+put-values-requires : tie.Need-put-values-requires
+put-values-requires c κs = search needs
+
+same-length : tie.Need-same-length
+same-length c = search needs
+
+returns : tie.Need-returns
+returns c =
+    let v = c .before .before in
+    let t = v .before .before .before .before in
+    let q = t .before .before .before .before .before in
+    put-join (q .put-counts .ensures .0) (put-join (t .put-text .ensures) (v .put-values .ensures))
+
+pub put-yes-spec : {M : Type 1} → statement M
+put-yes-spec =
+    tie.close
+    (tie.spec
+    put-counts-requires
+    slice-aggregate-put-text
+    put-text-requires
+    put-values-requires
+    same-length
+    returns)

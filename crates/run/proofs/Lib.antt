@@ -1,0 +1,2 @@
+-- The laws of the program's reading and reply.
+pub mod AnswerLaws

@@ -1,0 +1,2 @@
+-- What the program promises of its reading and its reply.
+pub mod Answers
