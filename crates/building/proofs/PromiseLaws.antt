@@ -6,7 +6,7 @@ use mathlib.Core.Option.{Option, some, none}
 use Prim.Native.Nat.{ℕ, _≤_, _<_}
 use native.Mathlib.Omega.{arith}
 use native.Mathlib.Decide.{decLt}
-use lib.ListN.{length, getD, take}
+use lib.ListN.{length, getD, take, drop, List·getD-append}
 use lib.Seq.{ext-getD}
 use Rattle.model.specs.Message.{Built}
 use Rattle.model.specs.Case.{File}
@@ -108,3 +108,20 @@ pub promise-listed : {file before : List ℕ} {r : Marked} {after : List ℕ} �
 promise-listed {before = before} p f list e (v, n, a) room =
     let (i, l, m, b) = p .marks f e v (omega arith) in
     (i ∙ ap Marks (sym n), b ∙ ap (λ x. laid x before) (mark-list-one f l list m (v, n, a)))
+
+-- ---- a mark that is written
+
+pub promise-mark : {file before : List ℕ} {n : ℕ} {after : List ℕ} → MarksPromise file before (Marks n) after → (f : File) → readFile file ≡ Reading.accepted f →
+    (c : ℕ) → c < n → Mark (Built (HeardOf f) (messagesOf f c)) (getD after c 0)
+promise-mark {file} {before} {n} {after} p f e c h = go (firstVariable (f .cells)) refl
+  where
+    go : (o : Option ℕ) → firstVariable (f .cells) ≡ o → Mark (Built (HeardOf f) (messagesOf f c)) (getD after c 0)
+    go (some at) v = let z = p .variable f at e v .0 in clash (cc)
+    go none v = elim (decLt (length before) (length (f .cells))) [
+      | yes s ↦ (let z = p .short f e v s .0 in clash (cc))
+      | no s ↦
+          (let (z, list, (_, size, marks), k) = p .marks f e v (omega arith) in
+          let i : n ≡ length (f .cells) = cc in
+          let front : getD after c 0 ≡ getD list c 0 = ap (λ (l : List ℕ). getD l c 0) k ∙ List·getD-append list (drop (length list) before) 0 c (omega arith) in
+          subst (Mark (Built (HeardOf f) (messagesOf f c))) (sym front) (marks c (omega arith)))
+    ]

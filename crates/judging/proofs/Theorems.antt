@@ -1,5 +1,5 @@
 -- The main theorems of the list check.
--- judge-settled: two replies that keep the promise are equal; judge-right: what "right" says.
+-- judge-settled: two replies that keep the promise are equal; judge-right, judge-followed: what "right" says.
 use mathlib.Core.Path.{_≡_, refl, sym, _∙_}
 use mathlib.Core.List.{List}
 use mathlib.Core.Logic.{_↔_, inl, inr}
@@ -8,6 +8,8 @@ use lib.ListN.{length}
 use Rattle.model.specs.Case.{File}
 use Rattle.model.specs.Format.{Reading, readFile}
 use Rattle.model.specs.Replies.{RightListed}
+use Rattle.model.proofs.Follow.{Followed}
+use Rattle.model.proofs.Theorems.{right-list-iff-followed}
 use Rattle.model.proofs.Finite.{eq?}
 use Rattle.model.proofs.Read.{clash}
 use Rattle.judging.specs.declared.Judged.{Judged}
@@ -42,3 +44,10 @@ judge-right file list r p = (λ i. go (readFile file) refl i, λ (f, e, w). p .r
     go : (x : Reading) → readFile file ≡ x → r ≡ Right → (f : File) × (readFile file ≡ Reading.accepted f) × RightListed f list
     go (Reading.refused number place) e i = let z = p .refused number place e in clash (cc)
     go (Reading.accepted f) e i = (f, e, p .right-only f e i)
+
+-- The same with the values spelt out: the list has the form, following it ends from every cell, and the messages that following comes to are right.
+pub judge-followed : (file list : List ℕ) (r : Judged) → JudgePromise file list r → (r ≡ Right) ↔ ((f : File) × (readFile file ≡ Reading.accepted f) × FormOf f list × Followed f list)
+judge-followed file list r p = (
+  λ i. (let (f, e, (form, right)) = judge-right file list r p .0 i in (f, e, form, right-list-iff-followed file f list e form .0 right)),
+  λ (f, e, form, followed). judge-right file list r p .1 (f, e, (form, right-list-iff-followed file f list e form .1 followed)),
+)

@@ -1,5 +1,6 @@
--- What stored bytes say: the kind of a cell, the event at a position, an entry of a list, a reply in a buffer.
+-- What stored bytes say: the kind of a cell, the event at a position, an entry of a list, a reply in a buffer, a mark.
 use mathlib.Core.Path.{_≡_, refl, _∙_, ap}
+use mathlib.Core.Logic.{_↔_}
 use mathlib.Core.Bool.{Bool, true, false}
 use mathlib.Core.List.{List}
 use mathlib.Core.Option.{some}
@@ -13,7 +14,7 @@ use Rattle.model.specs.Message.{App, Two}
 use Rattle.model.specs.Case.{Cell, AT, VA, ONE, TWO, SE, Event, MK, LN}
 use Rattle.model.specs.Values.{cellOf}
 use Rattle.model.specs.Reduce.{kind}
-use Rattle.model.specs.Replies.{laid}
+use Rattle.model.specs.Replies.{laid, Marked, set, unset}
 use Rattle.model.specs.Stored.{cellAt, eventAt, runAt}
 use Rattle.model.proofs.Read.{clash}
 
@@ -90,3 +91,14 @@ module _ (list before : List ℕ) (n : ℕ) (size : length list ≡ n) where
 
   pub laid-beyond : drop n (laid list before) ≡ drop n before
   laid-beyond = drop-at list (drop (length list) before) n size ∙ ap (λ (k : ℕ). drop k before) size
+
+-- ---- a mark
+
+module _ {P : Type 0} where
+  pub mark-set : {x : ℕ} → Marked P x → (x ≡ 1) ↔ P
+  mark-set (set p) = (λ _. p, λ _. refl)
+  mark-set (unset never) = (λ e. clash (cc), λ p. absurd (never p))
+
+  pub mark-unset : {x : ℕ} → Marked P x → (x ≡ 0) ↔ (P → ⊥)
+  mark-unset (set p) = (λ e. clash (cc), λ never. absurd (never p))
+  mark-unset (unset never) = (λ _. never, λ _. refl)

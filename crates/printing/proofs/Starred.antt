@@ -28,8 +28,8 @@ abbrev pub linesOfJ : List ℕ
 linesOfJ = 114 ∷ 101 ∷ 102 ∷ 117 ∷ 115 ∷ 101 ∷ 100 ∷ 32 ∷ 54 ∷ 32 ∷ 97 ∷ 116 ∷ 32 ∷ 50 ∷ 10 ∷ []
 
 -- An accepted file is the one that was read.
-read-one : {file : List ℕ} {f g : File} → readFile file ≡ accepted f → readFile file ≡ accepted g → f ≡ g
-read-one {f = f} {g = g} e i = let z : accepted f ≡ accepted g = sym e ∙ i in cc
+read-one : (file : List ℕ) {f g : File} → readFile file ≡ accepted f → readFile file ≡ accepted g → f ≡ g
+read-one file {f} {g} e i = let z : accepted f ≡ accepted g = sym e ∙ i in cc
 
 -- The lines of E show the entry of its variable alone.
 e-text : (list : List ℕ) → getD list 3 0 ≡ 1 → yesLines (its E) list ≡ linesOfE
@@ -38,16 +38,16 @@ e-text list e = rw e refl
 
 pub lines-of-e : (text : List ℕ) → Lines (bytesOf E) text → text ≡ linesOfE
 lines-of-e text (Lines.refusal n at e) = let z = read-as E in clash (cc)
-lines-of-e text (Lines.no f e none) = absurd (no-and-yes (bytesOf E) (its E) (0 ∷ 1 ∷ 2 ∷ 1 ∷ 4 ∷ []) (read-as E) (subst NoneRight (read-one e (read-as E)) none) e-yes)
+lines-of-e text (Lines.no f e none) = absurd (no-and-yes (bytesOf E) (its E) (0 ∷ 1 ∷ 2 ∷ 1 ∷ 4 ∷ []) (read-as E) (subst NoneRight (read-one (bytesOf E) e (read-as E)) none) e-yes)
 lines-of-e text (Lines.yes f list e right) =
-    let i = read-one e (read-as E) in
+    let i = read-one (bytesOf E) e (read-as E) in
     ap (λ f. yesLines f list) i ∙ e-text list (e-entry list (subst (λ f. RightListed f list) i right))
 
 pub lines-of-d : (text : List ℕ) → Lines (bytesOf D) text → text ≡ linesOfD
 unfolding digits
 lines-of-d text (Lines.refusal n at e) = let z = read-as D in clash (cc)
-lines-of-d text (Lines.no f e none) = ap noLines (read-one e (read-as D))
-lines-of-d text (Lines.yes f list e right) = absurd (no-and-yes (bytesOf D) (its D) list (read-as D) d-no (subst (λ f. RightListed f list) (read-one e (read-as D)) right))
+lines-of-d text (Lines.no f e none) = ap noLines (read-one (bytesOf D) e (read-as D))
+lines-of-d text (Lines.yes f list e right) = absurd (no-and-yes (bytesOf D) (its D) list (read-as D) d-no (subst (λ f. RightListed f list) (read-one (bytesOf D) e (read-as D)) right))
 
 pub lines-of-j : (text : List ℕ) → Lines (bytesOf J) text → text ≡ linesOfJ
 unfolding digits

@@ -1,13 +1,19 @@
--- The replies of a run as numbers.
-use mathlib.Core.Path.{_≡_, refl, sym, subst}
+-- The replies of a run as numbers; and that the list check calls a run's list right.
+use mathlib.Core.Path.{_≡_, refl, sym, _∙_, ap, subst}
 use mathlib.Core.Logic.{inl, inr}
 use mathlib.Core.List.{List}
 use Prim.Native.Nat.{ℕ, zero, suc}
 use native.Mathlib.Omega.{arith}
 use native.Mathlib.Decide.{decLt}
-use lib.ListN.{length}
+use lib.ListN.{length, take}
 use Rattle.model.specs.Case.{File}
 use Rattle.model.specs.Format.{Reading, readFile}
+use Rattle.model.specs.Replies.{RightListed}
+use Rattle.model.proofs.Read.{clash}
+use Rattle.model.proofs.Stored.{laid-front}
+use Rattle.judging.specs.declared.Judged.{Judged}
+use Rattle.judging.specs.declared.Judged.the-variants.{Right}
+use Rattle.judging.specs.Promise.{JudgePromise}
 use Rattle.running.specs.declared.Solved.{Solved}
 use Rattle.running.specs.declared.Solved.the-variants.{Refused, No, Yes}
 use Rattle.running.specs.Promise.{RunPromise}
@@ -55,3 +61,20 @@ module _ (file before : List ℕ) (reply : Solved) (after : List ℕ) (p : RunPr
       go : (x : Reading) → readFile file ≡ x → Fits (told reply)
       go (Reading.refused n q) e = fits (p .unread n q e .0) (unread-fits file n q e)
       go (Reading.accepted f) e = read f e
+
+-- The list at the front of the buffer is the right list of the promise, so the list check calls it right.
+pub shown-checked : {file before after : List ℕ} {n : ℕ} {judged : Judged} → RunPromise file before (Yes n) after → JudgePromise file (take n after) judged → judged ≡ Right
+shown-checked {file} {before} {after} {n} {judged} p j = go (readFile file) refl
+  where
+    go : (x : Reading) → readFile file ≡ x → judged ≡ Right
+    go (Reading.refused m q) e = let z = p .unread m q e .0 in clash (cc)
+    go (Reading.accepted f) e = elim (decLt (length before) (length (f .cells))) [
+      | yes h ↦ (let z = p .short f e h .0 in clash (cc))
+      | no h ↦ elim (p .replied f (record { read = e; room = omega arith })) [
+        | inl z ↦ clash (cc)
+        | inr z ↦
+            (let (list, right, k) = p .yes f (record { read = e; room = omega arith }) z in
+            let i : length list ≡ n = right .0 .size ∙ cc in
+            j .right f e (subst (RightListed f) (sym (ap (take n) k ∙ laid-front list before n i)) right))
+      ]
+    ]

@@ -1,7 +1,8 @@
--- The main theorems of the exported face: a number tells its reply, and two numbers for one input are equal.
+-- The main theorems of the exported face: a number tells its reply, two numbers for one input are equal, and the list check calls a run's list right.
 use mathlib.Core.Path.{_≡_, sym, _∙_, ap}
 use mathlib.Core.List.{List}
 use Prim.Native.Nat.{ℕ}
+use lib.ListN.{take}
 use Rattle.model.specs.Replies.{EquatedBy, RightListed, SameButList}
 use Rattle.building.specs.declared.Marked.{Marked}
 use Rattle.building.specs.Promise.{MarksPromise}
@@ -10,17 +11,19 @@ use Rattle.equating.specs.declared.Equated.{Equated}
 use Rattle.equating.specs.Promise.{EquatePromise}
 use Rattle.equating.proofs.Theorems.{equate-settled}
 use Rattle.judging.specs.declared.Judged.{Judged}
+use Rattle.judging.specs.declared.Judged.the-variants.{Right}
 use Rattle.judging.specs.Promise.{JudgePromise}
 use Rattle.judging.proofs.Theorems.{judge-settled}
 use Rattle.reducing.specs.declared.Reduced.{Reduced}
 use Rattle.reducing.specs.Promise.{ReducePromise}
 use Rattle.reducing.proofs.Theorems.{reduce-settled}
 use Rattle.running.specs.declared.Solved.{Solved}
+use Rattle.running.specs.declared.Solved.the-variants.{Yes}
 use Rattle.running.specs.Promise.{RunPromise}
 use Rattle.running.proofs.Theorems.{run-settled}
 use Rattle.prismfleece.specs.Numbers.{equateNumber, EquateTold, runNumber, RunTold, checkNumber, CheckTold, marksNumber, MarksTold, reduceNumber, ReduceTold}
 use Rattle.prismfleece.proofs.EquateLaws.{equate-fits, equate-tells}
-use Rattle.prismfleece.proofs.RunLaws.{run-fits, run-tells}
+use Rattle.prismfleece.proofs.RunLaws.{run-fits, run-tells, shown-checked}
 use Rattle.prismfleece.proofs.CheckLaws.{check-fits, check-tells}
 use Rattle.prismfleece.proofs.MarksLaws.{marks-fits, marks-tells}
 use Rattle.prismfleece.proofs.ReduceLaws.{reduce-fits, reduce-tells}
@@ -60,3 +63,9 @@ marks-number-settled (r, p, e) (r′, p′, e′) = let (i, s) = build-marks-set
 
 pub reduce-number-settled : {file before after after′ : List ℕ} {n n′ : ℕ} → ReduceTold file before n after → ReduceTold file before n′ after′ → (n ≡ n′) × (after ≡ after′)
 reduce-number-settled (r, p, e) (r′, p′, e′) = let (i, s) = reduce-settled p p′ in (e ∙ (ap reduceNumber i ∙ sym e′), s)
+
+-- ---- the run and the list check
+
+-- The list that a run shows is called right by the list check.
+pub run-list-checked : {file before after : List ℕ} {n : ℕ} {judged : Judged} → RunPromise file before (Yes n) after → JudgePromise file (take n after) judged → judged ≡ Right
+run-list-checked = shown-checked

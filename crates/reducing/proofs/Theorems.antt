@@ -5,9 +5,12 @@ use mathlib.Core.List.{List}
 use mathlib.Core.Option.{none}
 use Prim.Native.Nat.{ℕ, _+_, _*_, _≤_}
 use lib.ListN.{length, take}
+use Rattle.model.specs.Message.{Message, Bounded, Built}
 use Rattle.model.specs.Case.{File}
 use Rattle.model.specs.Format.{Reading, readFile, firstVariable}
-use Rattle.model.specs.Replies.{ReducedTo, laid}
+use Rattle.model.specs.Replies.{HeardOf, ReducedTo, laid}
+use Rattle.model.proofs.Accepted.{Bytes}
+use Rattle.model.proofs.Theorems.{same-of-the-format}
 use Rattle.reducing.specs.declared.Reduced.{Reduced}
 use Rattle.reducing.specs.declared.Reduced.the-variants.{Reduced as Written}
 use Rattle.reducing.specs.Promise.{SameBuilt, ReducePromise}
@@ -37,6 +40,14 @@ pub reduce-canonical-written : {file file′ before before′ after after′ : L
     ReducePromise file before (Written n) after → ReducePromise file′ before′ (Written n′) after′ →
     {f f′ : File} → readFile file ≡ Reading.accepted f → readFile file′ ≡ Reading.accepted f′ → SameBuilt f f′ ↔ (take n after ≡ take n′ after′)
 reduce-canonical-written p q e e′ = promised-canonical p q e e′ (promised-written p e refl .0) (promised-written q e′ refl .0)
+
+-- It is enough to look at messages with names below 65,536 and functions below 256, those that files can show.
+pub reduce-canonical-bounded : {file file′ before before′ after after′ : List ℕ} {n n′ : ℕ} → ReducePromise file before (Written n) after → ReducePromise file′ before′ (Written n′) after′ →
+    Bytes file → Bytes file′ → {f f′ : File} → readFile file ≡ Reading.accepted f → readFile file′ ≡ Reading.accepted f′ →
+    ((x : Message) → Bounded x → Built (HeardOf f) x ↔ Built (HeardOf f′) x) ↔ (take n after ≡ take n′ after′)
+reduce-canonical-bounded p q b b′ {f} {f′} e e′ =
+    let same = reduce-canonical-written p q e e′ in
+    (λ h. same .0 (same-of-the-format _ _ f f′ b b′ e e′ h), λ i x _. same .1 i x)
 
 -- The reduced file is accepted, has no variables, and lets him build the same as its source.
 pub reduced-accepted-again : {file before after b : List ℕ} {reply : Reduced} {f : File} → ReducePromise file before reply after → readFile file ≡ Reading.accepted f → ReducedTo f b →
