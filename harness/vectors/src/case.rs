@@ -33,19 +33,14 @@ fn refused(number: u8, place: usize) -> String {
     format!("refused {number} at {place}")
 }
 
-/// Whether the run has right values, as all searches say that finish. An error if they differ or none finishes.
-fn decided(case: &CaseFile) -> Result<bool, String> {
-    possible(case)?.ok_or("no search finishes".into())
-}
-
-/// Whether the run has right values; nothing where no search finishes.
-pub fn possible(case: &CaseFile) -> Result<Option<bool>, String> {
-    Ok(right_list(case)?.map(|list| list.is_some()))
-}
-
-/// A right list, or none; nothing where no search finishes.
+/// A right list, or none, as all searches say that finish; nothing where none finishes. An error if they differ.
 pub fn right_list(case: &CaseFile) -> Result<Option<Option<Vec<u8>>>, String> {
     searches::agreed(case, 400, Limit::by_size(case, 3000))
+}
+
+/// Whether the run has right values. An error if the searches differ or none finishes.
+fn decided(case: &CaseFile) -> Result<bool, String> {
+    right_list(case)?.map(|list| list.is_some()).ok_or("no search finishes".into())
 }
 
 /// The reply that both ways of the reference give.
@@ -81,18 +76,21 @@ impl Case {
     }
 
     /// What the case must print, without the last line feed. An error if the reference is in two minds or the library shows a wrong list.
-    pub fn line(&self) -> Result<String, String> {
+    pub fn lines(&self) -> Result<String, String> {
+        self.reply().map_err(|why| format!("{why}; file {}", hex(&self.file)))
+    }
+
+    fn reply(&self) -> Result<String, String> {
         let file = &self.file;
-        match &self.asked {
-            Asked::File => Ok(self.accepted()),
+        Ok(match &self.asked {
+            Asked::File => self.accepted(),
             Asked::Marks { room } => told("marks", both(questions::marks(file, *room), plain::marks(file, *room))?),
             Asked::Reduced { room } => told("reduced", both(questions::reduce(file, *room), plain::reduce(file, *room, false))?),
-            Asked::Equated { a, b, room } => self.equated(*a as usize, *b as usize, *room as usize),
-            Asked::Run { room } => self.run(*room),
+            Asked::Equated { a, b, room } => self.equated(*a as usize, *b as usize, *room as usize)?,
+            Asked::Run { room } => self.run(*room)?,
             Asked::List(list) => told("", both(questions::check(file, list), plain::check(file, list))?),
-            Asked::Printed => self.printed(),
-        }
-        .map_err(|why| format!("{why}; file {}", hex(file)))
+            Asked::Printed => self.printed()?,
+        })
     }
 
     fn accepted(&self) -> String {
@@ -155,12 +153,12 @@ impl Case {
 }
 
 /// A reply that the reference fixes to the last byte, as a line.
-fn told(what: &str, reply: Reply) -> Result<String, String> {
-    Ok(match reply {
+fn told(what: &str, reply: Reply) -> String {
+    match reply {
         Reply::Refused(number, place) => refused(number, place),
         Reply::No => "wrong".into(),
         Reply::Right => "right".into(),
         Reply::Bytes(bytes) if what == "marks" => bytes.iter().fold("marks ".into(), |line, mark| format!("{line}{mark}")),
         Reply::Bytes(bytes) => format!("{what} {}", hex(&bytes)),
-    })
+    }
 }

@@ -80,7 +80,7 @@ fn work(options: &Options) -> Result<String, String> {
     let sections = sections::sections(options.print)?;
     let rows = rows(&sections)?;
     let stdin: Vec<u8> = rows.iter().flat_map(|row| row.case.clone()).collect();
-    let stdout: String = rows.iter().map(|row| row.line.clone() + "\n").collect::<String>() + &format!("{} cases\n", rows.len());
+    let stdout: String = rows.iter().map(|row| row.lines.clone() + "\n").collect::<String>() + &format!("{} cases\n", rows.len());
     if stdin.len() > MOST_BYTES {
         return Err(format!("{} bytes of cases, and the program reads {MOST_BYTES}", stdin.len()));
     }
@@ -96,20 +96,20 @@ fn work(options: &Options) -> Result<String, String> {
     Ok(counts(&rows) + &summary)
 }
 
-/// A case with the line it must print.
+/// A case with what it must print.
 struct Row {
     section: &'static str,
     case: Vec<u8>,
-    line: String,
+    lines: String,
 }
 
-/// Every case with its line; an error for the first one in doubt.
+/// Every case with its lines; an error for the first one in doubt.
 fn rows(sections: &[Section]) -> Result<Vec<Row>, String> {
     let mut rows = Vec::new();
     for (section, cases) in sections {
         for case in cases {
-            let line = case.line().map_err(|why| format!("case {}, section {section}: {why}", rows.len()))?;
-            rows.push(Row { section, case: case.bytes(), line });
+            let lines = case.lines().map_err(|why| format!("case {}, section {section}: {why}", rows.len()))?;
+            rows.push(Row { section, case: case.bytes(), lines });
         }
     }
     Ok(rows)
@@ -119,8 +119,8 @@ fn rows(sections: &[Section]) -> Result<Vec<Row>, String> {
 fn counts(rows: &[Row]) -> String {
     let mut counts: BTreeMap<&str, BTreeMap<String, usize>> = BTreeMap::new();
     for row in rows {
-        let refused = row.line.starts_with("refused");
-        let kind = row.line.split_whitespace().take(1 + refused as usize).collect::<Vec<_>>().join(" ");
+        let refused = row.lines.starts_with("refused");
+        let kind = row.lines.split_whitespace().take(1 + refused as usize).collect::<Vec<_>>().join(" ");
         *counts.entry(row.section).or_default().entry(kind).or_default() += 1;
     }
     let kinds =

@@ -7,7 +7,7 @@ use generator::draw::{self, Like};
 use reference::casefile::written;
 
 use crate::case::{Asked, Case};
-use crate::texts::{self, bounds, named, of};
+use crate::texts::{self, bounds, many_variables, named, of};
 use crate::{equating, files, ground, runs};
 
 /// A room that every reply fits.
@@ -63,9 +63,9 @@ fn list(chance: &mut Chance) -> Result<Vec<Case>, String> {
     Ok(runs::lists(chance)?.into_iter().map(|(list, file)| Case { asked: Asked::List(list), file }).collect())
 }
 
-/// The files of document 01, and Q's bounds.
+/// The files of document 01, Q's bounds, and files with many variables.
 fn printed() -> Vec<Case> {
-    let texts = named().into_iter().map(|(_, text)| text).chain(bounds());
+    let texts = named().into_iter().map(|(_, text)| text).chain(bounds()).chain(many_variables());
     texts.map(|text| Case { asked: Asked::Printed, file: written(&text) }).collect()
 }
 

@@ -93,6 +93,13 @@ pub fn bounds() -> Vec<String> {
     vec![full_cells() + EN, full_cells() + &at(9) + EN, one.clone() + &full_events() + EN, one + &full_events() + &mk(0) + EN]
 }
 
+/// 128 variables; and 100, of which the first 25 must be cell 101.
+pub fn many_variables() -> [String; 2] {
+    let seals: String = (0..25).map(|v| se(v, 100)).collect();
+    let wanted: String = (103..128).map(mk).collect();
+    [variables(128) + EN, variables(100) + &at(1) + &at(2) + &se(101, 100) + &seals + &ln(102) + &wanted + EN]
+}
+
 /// A file for each of the refusals 1 to 7.
 pub fn refused() -> [String; 7] {
     [of("A"), "ZZ EN".into(), "AT 0001 LN 00 AT 0002 EN".into(), variables(129) + EN, of("Q0"), of("J"), of("E") + " X"]
