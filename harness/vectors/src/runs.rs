@@ -67,8 +67,11 @@ fn every_list(case: &CaseFile) -> Vec<Vec<u8>> {
     })
 }
 
+/// A list and a file.
+type Listed = (Vec<u8>, Vec<u8>);
+
 /// The lists and files for the list check. An error if the searches differ.
-pub fn lists(chance: &mut Chance) -> Result<Vec<(Vec<u8>, Vec<u8>)>, String> {
+pub fn lists(chance: &mut Chance) -> Result<Vec<Listed>, String> {
     let mut found = Vec::new();
     let of_i: [&[u8]; 10] =
         [&[0, 255, 2], &[0, 0, 2], &[0, 2, 2], &[0, 1, 2], &[0, 3, 2], &[0, 254, 2], &[1, 255, 2], &[0, 255], &[0, 255, 2, 3], &[]];
@@ -93,7 +96,7 @@ pub fn lists(chance: &mut Chance) -> Result<Vec<(Vec<u8>, Vec<u8>)>, String> {
 }
 
 /// A list for a drawn run: a right one with few values changed, or any, and now and then in bad form.
-fn drawn_list(chance: &mut Chance) -> Result<(Vec<u8>, Vec<u8>), String> {
+fn drawn_list(chance: &mut Chance) -> Result<Listed, String> {
     let case = drawn(chance, 40, &[8, 14, 20]);
     let right = right_list(&case)?.flatten();
     let mut list = right.clone().unwrap_or(all_own(&case));
