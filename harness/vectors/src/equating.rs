@@ -19,7 +19,7 @@ pub fn equated(chance: &mut Chance) -> Vec<Two> {
     }
     found.extend(high());
     found.extend(every_kind());
-    while found.len() < 400 {
+    while found.len() < 405 {
         found.extend(drawn(chance));
     }
     found

@@ -142,7 +142,9 @@ fn coinciding() -> Vec<String> {
     for mark in ["PR", "SE", "AP"] {
         put(&format!("{few} {mark}"), &["", "ff", "00 ff EN", "ff 00 EN"]);
     }
-    put("AT 0001 LN 00 AT", &["", "00"]);
+    for mark in ["AT", "VA", "PR", "SE", "AP"] {
+        put(&format!("AT 0001 LN 00 {mark}"), &["", "00", "00 00 EN"]);
+    }
     put(&few, &["AT", "AT ff", "MK", "LN", "LN ff EN", "MK ff EN", "LN 01 EN"]);
     put(&crowded[..crowded.len() - mk(0).len()], &["LN 01 EN", "LN 02 EN", "LN 00 EN"]);
     for first in ["PR 09 09", "ZZ", "AT 0001 MK 07", "AT 0001 MK 00 AT 0002", "VA LN 00", "EN"] {

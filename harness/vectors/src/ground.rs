@@ -11,7 +11,7 @@ use crate::texts::*;
 
 /// The rooms and files for build marks.
 pub fn marks(chance: &mut Chance) -> Vec<(usize, Vec<u8>)> {
-    let mut found = files(chance, 300);
+    let mut found = files(chance, 305);
     found.extend(many_bare().into_iter().take(2));
     with_rooms(chance, found, questions::marks)
 }

@@ -76,7 +76,8 @@ fn with_room(cases: impl Iterator<Item = (usize, Vec<u8>)>, asked: fn(usize) -> 
 /// Refusals of the file, and of a variable where there may be none, with and without room.
 fn refused(chance: &mut Chance) -> Vec<(usize, Vec<u8>)> {
     let variables = [of("E"), of("R"), "VA EN".into(), "AT 0001 VA LN 00 EN".into(), "AT 0001 PR 00 00 VA EN".into()];
-    let mut files: Vec<Vec<u8>> = texts::refused().iter().chain(&variables).map(|text| written(text)).collect();
+    let later = ["AT 0001 6174 EN", "AT 0001 LN 00 ZZ", "AT 0001 MK 00 VA EN", "AT 0001 MK 01 EN"].map(String::from);
+    let mut files: Vec<Vec<u8>> = texts::refused().iter().chain(&later).chain(&variables).map(|text| written(text)).collect();
     for _ in 0..10 {
         let like = Like { cells: 6, events: 4, variables: 20, names: 4, learns: 55 };
         let case = draw::file(chance, &like);
