@@ -1,36 +1,27 @@
-//! Answers file E of the paper, and shows a refusal. Built and run by examples/run.sh.
+//! Answers files E, G and J of the paper: "yes" with its values, "no", and a refusal. Built and run by examples/run.sh.
 
-extern "C" {
-    fn prismfleece_run(file: *const u8, file_len: usize, out: *mut u8, out_len: usize) -> u64;
-}
+#[path = "../bindings/prismfleece.rs"]
+mod prismfleece;
 
-/// The reply to a run.
-enum Reply {
-    Refused { number: u64, place: u64 },
-    No,
-    Yes(Vec<u8>),
-}
+use prismfleece::{Judged, Values, CELLS, OWN};
 
-fn run(file: &[u8]) -> Reply {
-    let mut list = vec![0u8; 128];
-    // The library reads `file` and writes at most `list.len()` bytes to `list`; it keeps neither.
-    let reply = unsafe { prismfleece_run(file.as_ptr(), file.len(), list.as_mut_ptr(), list.len()) };
-    match (reply >> 32, reply) {
-        (0, 0) => Reply::No,
-        (0, n) => {
-            list.truncate(n as usize - 1);
-            Reply::Yes(list)
+/// Asks the run, and puts a list that it shows to the list check.
+fn answer(name: &str, file: &[u8]) {
+    let mut buffer = [0; CELLS];
+    match prismfleece::run(file, &mut buffer) {
+        Values::Refused(refusal) => println!("{name}: {refusal}"),
+        Values::No => println!("{name}: no"),
+        Values::List(list) => {
+            let right = prismfleece::check(file, list) == Judged::Right;
+            print!("{name}: yes,");
+            list.iter().for_each(|&entry| if entry == OWN { print!(" own") } else { print!(" {entry}") });
+            println!(", the list check says {}", if right { "right" } else { "wrong" });
         }
-        (number, _) => Reply::Refused { number, place: reply & 0xffff_ffff },
     }
 }
 
 fn main() {
-    for (name, file) in [("E", &b"AT\0\x01AT\0\x02SE\x01\0VASE\x03\0LN\x02MK\x04EN"[..]), ("J", &b"VALN\0EN"[..])] {
-        match run(file) {
-            Reply::Refused { number, place } => println!("{name}: refused {number} at {place}"),
-            Reply::No => println!("{name}: no"),
-            Reply::Yes(list) => println!("{name}: yes, {list:?}"),
-        }
-    }
+    answer("E", b"AT\0\x01AT\0\x02SE\x01\0VASE\x03\0LN\x02MK\x04EN");
+    answer("G", b"AT\0\x01AT\0\x02SE\x01\0VASE\x03\0LN\x02MK\x01LN\0EN");
+    answer("J", b"VALN\0EN");
 }

@@ -12,13 +12,27 @@
  * first VA), 9 buffer too short (place: the length needed), 10 value list in bad form. The place is the offset in the file of the record's mark,
  * unless said otherwise; for 1 the file's length if the file ends between records.
  *
- * No function allocates, keeps state or calls back; all may be called from several threads at once.
+ * Buffers: a pointer with length 0 is neither read nor written through, so it may be null. `out` must share no byte with `file`; `file` and `list`,
+ * which are only read, may overlap.
+ *
+ * No function allocates, keeps state or calls back; all may be called from several threads at once. The deepest call, a run, takes at most about 210 KB
+ * of stack (reckoned; the most that was measured is 50 KB).
  */
 #ifndef PRISMFLEECE_H
 #define PRISMFLEECE_H
 
 #include <stddef.h>
 #include <stdint.h>
+
+#define PRISMFLEECE_VERSION "0.1.0"
+#define PRISMFLEECE_VERSION_MAJOR 0
+#define PRISMFLEECE_VERSION_MINOR 1
+#define PRISMFLEECE_VERSION_PATCH 0
+
+#define PRISMFLEECE_CELLS 128  /* the most cells of a file; also the longest list of values or marks */
+#define PRISMFLEECE_EVENTS 128 /* the most events of a file */
+#define PRISMFLEECE_FILE 898   /* the most bytes of a file, given or reduced */
+#define PRISMFLEECE_OWN 255    /* name 0, the intruder's own, as a variable's entry in a value list */
 
 #ifdef __cplusplus
 extern "C" {
@@ -29,7 +43,7 @@ extern "C" {
 uint64_t prismfleece_equate(const uint8_t *file, size_t file_len, size_t a, size_t b, uint8_t *out, size_t out_len);
 
 /* Values of the variables under which the intruder can make each message asked of him from what he had learnt by then: one byte per cell, for a variable
- * the number of a cell that is no variable, or 255 for name 0; for any other cell its own number. 0: there are no such values. Refusal 9. */
+ * the number of a cell that is no variable, or PRISMFLEECE_OWN; for any other cell its own number. 0: there are no such values. Refusal 9. */
 uint64_t prismfleece_run(const uint8_t *file, size_t file_len, uint8_t *out, size_t out_len);
 
 /* Is a value list (as prismfleece_run writes it, from anyone) right? 1: right, 0: wrong (also if following it comes round). Refusal 10: place is the cell
@@ -40,7 +54,7 @@ uint64_t prismfleece_check(const uint8_t *file, size_t file_len, const uint8_t *
 uint64_t prismfleece_marks(const uint8_t *file, size_t file_len, uint8_t *out, size_t out_len);
 
 /* The reduced file of a file without variables: two files have equal ones, byte by byte, exactly if what they teach lets him build the same messages.
- * At most 898 bytes. Refusals 8 and 9. */
+ * At most PRISMFLEECE_FILE bytes. Refusals 8 and 9. */
 uint64_t prismfleece_reduce(const uint8_t *file, size_t file_len, uint8_t *out, size_t out_len);
 
 /* The number of a refusal, 0 if the reply is none. */

@@ -1,15 +1,16 @@
 // A question for each letter. `head` is the case from its letter to the file's length, `file` the file;
 // a reply is laid into `out`, which is longer than any room that a case asks for.
+use crate::print::print;
 use crate::print::print_hex;
+use crate::print::print_list;
 use crate::print::print_marks;
+use crate::print::print_number;
+use crate::print::print_refused;
 use building::Marked;
 use casefile::Found;
 use casefile::events::Verdict;
 use equating::Equated;
 use judging::Judged;
-use printing::print;
-use printing::print_number;
-use printing::print_refused;
 use reducing::Reduced;
 use running::Solved;
 
@@ -80,7 +81,7 @@ fn ask_reduced(room: usize, file: &[u8], out: &mut [u8]) {
     }
 }
 
-// e: can the two cells be made equal?
+// e: can the two cells be made equal? Then a list shows the most general values.
 fn ask_equated(a: u8, b: u8, room: usize, file: &[u8], out: &mut [u8]) {
     if room > out.len() {
         return;
@@ -89,7 +90,11 @@ fn ask_equated(a: u8, b: u8, room: usize, file: &[u8], out: &mut [u8]) {
     match reply {
         Equated::Refused(number, place) => print_refused(number, place),
         Equated::No => print(b"no\n"),
-        Equated::Listed(n) => print(b"yes\n"),
+        Equated::Listed(n) => {
+            print(b"yes");
+            print_list(out, n);
+            print(b"\n");
+        }
     }
 }
 

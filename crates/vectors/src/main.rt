@@ -3,9 +3,9 @@
 mod ask;
 mod print;
 
+use crate::print::print;
+use crate::print::print_number;
 use libc::STDIN_FILENO;
-use printing::print;
-use printing::print_number;
 
 // How many bytes stand before the file's length, of a case that starts with these two bytes: the letter, and room, cells and room, or a list.
 fn head_size(letter: u8, next: u8) -> usize {

@@ -1,10 +1,10 @@
 //! Each question asked of the library and held against the reference.
 
 use generator::chance::Chance;
-use reference::brute;
 use reference::casefile::{read, CaseFile, Cell};
-use reference::lazy::{self, Limit, Outcome, PUBLISHED, SHORTENED};
+use reference::lazy::{self, Limit, Outcome, SHORTENED};
 use reference::questions::{self, Reply};
+use reference::searches;
 
 use crate::buffers::Call;
 use crate::options::Options;
@@ -196,11 +196,7 @@ impl Asking<'_> {
     /// What each independent way of solving says.
     fn outcomes(&mut self, case: &CaseFile) -> [(&'static str, Outcome); 3] {
         let limit = Limit::by_size(case, self.options.sets);
-        let outcomes = [
-            ("every list", brute::solve(case, self.options.lists)),
-            ("lazy intruder as published", lazy::solve(case, PUBLISHED, limit).0),
-            ("lazy intruder with shortcuts", lazy::solve(case, SHORTENED, limit).0),
-        ];
+        let outcomes = searches::outcomes(case, self.options.lists, limit);
         for (name, outcome) in &outcomes {
             match outcome {
                 Outcome::Unfinished => self.tally.note(format!("unfinished: {name}")),

@@ -5,6 +5,8 @@
 pub mod chance;
 pub mod damage;
 pub mod draft;
+pub mod draw;
+pub mod exchanges;
 pub mod families;
 pub mod grown;
 pub mod large;

@@ -105,6 +105,17 @@ impl CaseFile {
     }
 }
 
+/// The bytes of a file as document 01 writes it: words of capital letters stand for themselves, all others are hexadecimal.
+pub fn written(text: &str) -> Vec<u8> {
+    let bytes_of = |word: &str| {
+        if word.bytes().all(|b| b.is_ascii_uppercase()) {
+            return word.as_bytes().to_vec();
+        }
+        (0..word.len()).step_by(2).map(|i| u8::from_str_radix(&word[i..i + 2], 16).expect("hexadecimal")).collect()
+    };
+    text.split_whitespace().flat_map(bytes_of).collect()
+}
+
 /// How many bytes of fields follow a mark; nothing for an unknown mark.
 fn field_bytes(mark: [u8; 2]) -> Option<usize> {
     match &mark {

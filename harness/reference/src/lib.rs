@@ -3,7 +3,8 @@
 //! A message is the number of a shared tree ([`terms`]); what the intruder can build is found by saturating over
 //! messages ([`building`]); equality by a textbook unifier ([`unifying`]); a run by the lazy intruder of source 001
 //! ([`lazy`]) and by trying every permitted value list ([`brute`]). [`questions`] puts the replies together.
-//! [`plain`] answers all but the run a second time in another way, so that the two can be held against each other.
+//! [`searches`] asks all of them of one run. [`plain`] answers all but the run a second time in another way, so that the two can be
+//! held against each other.
 
 #![forbid(unsafe_code)]
 
@@ -14,5 +15,6 @@ pub mod lazy;
 pub mod plain;
 pub mod questions;
 pub mod reducing;
+pub mod searches;
 pub mod terms;
 pub mod unifying;

@@ -1,43 +1,18 @@
 //! The files on both sides of each line, from document 01.
 
-use reference::brute;
-use reference::casefile::read;
-use reference::lazy::{self, Limit, Outcome, PUBLISHED, SHORTENED};
+use reference::casefile::{read, written as file};
+use reference::lazy::{Limit, PUBLISHED};
 use reference::plain;
 use reference::questions::{self, Reply};
-
-/// Bytes from text: marks stand for themselves, every other word is hexadecimal.
-fn file(text: &str) -> Vec<u8> {
-    let marks = ["AT", "VA", "PR", "SE", "AP", "MK", "LN", "EN"];
-    let mut out = Vec::new();
-    for word in text.split_whitespace() {
-        if marks.contains(&word) {
-            out.extend(word.bytes());
-        } else {
-            out.extend((0..word.len()).step_by(2).map(|i| u8::from_str_radix(&word[i..i + 2], 16).expect("hexadecimal")));
-        }
-    }
-    out
-}
+use reference::searches;
 
 const E: &str = "AT 0001 AT 0002 SE 01 00 VA SE 03 00";
 
 /// What all three ways of solving say of a run; they must agree.
 fn solved(text: &str) -> Option<Vec<u8>> {
     let case = read(&file(text)).expect("accepted");
-    let limit = Limit::sets(10_000);
-    let ways = [brute::solve(&case, 1_000_000), lazy::solve(&case, PUBLISHED, limit).0, lazy::solve(&case, SHORTENED, limit).0];
-    for way in &ways {
-        match (way, &ways[0]) {
-            (Outcome::Right(list), Outcome::Right(_)) => assert_eq!(questions::check(&file(text), list), Reply::Right),
-            (Outcome::None, Outcome::None) => {}
-            _ => panic!("{text}: {ways:?}"),
-        }
-    }
-    match &ways[0] {
-        Outcome::Right(list) => Some(list.clone()),
-        _ => None,
-    }
+    let reply = searches::agreed(&case, 1_000_000, Limit::sets(10_000)).unwrap_or_else(|why| panic!("{text}: {why}"));
+    reply.expect("every list is tried")
 }
 
 fn run_refused(text: &str) -> Reply {

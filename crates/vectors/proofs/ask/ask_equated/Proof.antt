@@ -43,6 +43,15 @@ slice-aggregate-print-2 c = search needs
 print-requires-2 : tie.Need-print-requires-2
 print-requires-2 c κs = search needs
 
+print-list-requires : tie.Need-print-list-requires
+print-list-requires c κs = search needs
+
+slice-aggregate-print-3 : tie.Need-slice-aggregate-print-3
+slice-aggregate-print-3 c = search needs
+
+print-requires-3 : tie.Need-print-requires-3
+print-requires-3 c κs = search needs
+
 same-length : tie.Need-same-length
 same-length c = search needs
 
@@ -77,6 +86,9 @@ ask-equated-spec =
     enum-known-reply-2
     slice-aggregate-print-2
     print-requires-2
+    print-list-requires
+    slice-aggregate-print-3
+    print-requires-3
     same-length
     returns-2
     same-length-2
