@@ -372,7 +372,7 @@ fn hear<'a>(n: usize, rep: &'a [u8; 129], x: u8, st: Stage) -> Stage
 {
     let seen = st.seen;
     let built = st.built;
-    let best = st.best;
+    let so_far = st.best;
     let grant = st.grant;
     let lit = grant.seen;
     let had = grant.built;
@@ -391,7 +391,7 @@ fn hear<'a>(n: usize, rep: &'a [u8; 129], x: u8, st: Stage) -> Stage
             bare: bare,
             costs: costs,
         },
-        best: best,
+        best: so_far,
     }
 }
 
