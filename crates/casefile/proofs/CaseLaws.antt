@@ -12,10 +12,11 @@ use Rattle.model.proofs.Rows.{table-rows}
 use Rattle.casefile.specs.declared.Found.{Found}
 use Rattle.casefile.specs.declared.cells.Table.{Table}
 use Rattle.casefile.specs.declared.events.Verdict.the-variants as verdict
-use Rattle.casefile.specs.declared.events.EventsEnd.{EventsEnd}
+use Rattle.casefile.specs.declared.rest.EventsEnd.{EventsEnd}
 use Rattle.casefile.specs.Cells.{Cut, Begun}
 use Rattle.casefile.specs.Events.{readAs, EventsRead}
 use Rattle.casefile.specs.Case.{caseOf, refusal, VariableFound}
+use Rattle.casefile.proofs.VariableLaws.{variable-found}
 
 module _ (file : List ℕ) (at : ℕ) (t : Table) (cut : Cut file at t) where
   -- The part of the file that begins where the cell records end.
@@ -45,5 +46,5 @@ module _ (file : List ℕ) (at : ℕ) (t : Table) (cut : Cut file at t) where
         record { verdict = verdict.Accepted; table = t; events = r .events; variable = v } ≡ caseOf (readFile file)
     reply-accepted v e found =
         let (events, stored, reading) = subst (λ w. readAs w (r .events) (cut .list) (readFile file)) e reply in
-        let variable = found (cut .list) (ap (λ u. u .kind) (cut .table)) (ap (λ u. u .cells) (cut .table)) in
+        let variable = variable-found (t .kind) (cut .list) (ap (λ u. u .kind) (cut .table)) (t .cells) v (ap (λ u. u .cells) (cut .table)) found in
         (λ i. record { verdict = verdict.Accepted; table = cut .table i; events = stored i; variable = variable i }) ∙ sym (ap caseOf reading)

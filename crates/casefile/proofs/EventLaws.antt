@@ -18,7 +18,7 @@ use Rattle.casefile.specs.declared.record.Mark.the-variants as mark
 use Rattle.casefile.specs.declared.record.Record.{Record as Rec}
 use Rattle.casefile.specs.declared.record.Fields.the-variants as fields
 use Rattle.casefile.specs.declared.cells.Section.the-variants as section
-use Rattle.casefile.specs.declared.events.EventStep.the-variants as step
+use Rattle.casefile.specs.declared.rest.EventStep.the-variants as step
 use Rattle.casefile.specs.Record.{asMark, markAt, widthOf, recordFor, fieldsAt}
 use Rattle.casefile.specs.Cells.{sectionOf}
 use Rattle.casefile.specs.Events.{endMark, eventFor, belowCells, Among, Found, Ended, eventSays}

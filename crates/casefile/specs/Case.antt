@@ -2,11 +2,8 @@
 use mathlib.Core.Path.{_≡_}
 use mathlib.Core.List.{List}
 use mathlib.Core.Option.{Option, some, none}
-use Prim.Native.Nat.{ℕ}
-use lib.ListN.{length}
-use Rattle.model.specs.Case as case
-use Rattle.model.specs.Reduce.{kind}
-use Rattle.model.specs.Stored.{row}
+use Prim.Native.Nat.{ℕ, _*_, _<_}
+use lib.ListN.{getD}
 use Rattle.model.specs.Format.{Reading, firstVariable}
 use Rattle.casefile.specs.declared.Case.{Case}
 use Rattle.casefile.specs.declared.Found.{Found}
@@ -30,6 +27,7 @@ caseOf (Reading.refused number place) = refusal number place
 caseOf (Reading.accepted f) =
     record { verdict = verdict.Accepted; table = stored (f .cells); events = storedEvents (f .events); variable = foundAt (firstVariable (f .cells)) }
 
--- r is the offset of the first VA of n cells with these kinds.
+-- r is the offset of the first VA of n cells with these kinds: the records of the cells before it have four bytes each.
 abbrev pub VariableFound : List ℕ → ℕ → Found → Type 0
-VariableFound kinds n r = (cells : List case.Cell) → kinds ≡ row kind cells → n ≡ length cells → r ≡ foundAt (firstVariable cells)
+VariableFound kinds n (found.At at) = (i : ℕ) × (at ≡ 4 * i) × (i < n) × (getD kinds i 0 ≡ 1) × ((j : ℕ) → j < i → getD kinds j 0 ≡ 1 → ⊥)
+VariableFound kinds n found.Nowhere = (j : ℕ) → j < n → getD kinds j 0 ≡ 1 → ⊥

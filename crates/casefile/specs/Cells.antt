@@ -120,10 +120,10 @@ pub record Cut (file : List ℕ) (at : ℕ) (t : Table) : Type 0 where
   pub begun : Begun (drop at file)
   pub rest : readFrom 257 (drop at file) at (record { cells = list; events = [] }) ≡ readFile file
 
--- What the reader of the cell records gives back.
+-- What the reader of the cell records gives back. A refusal comes with no cell.
 abbrev pub cellsRead : List ℕ → Stop → ℕ → Table → Type 0
 cellsRead file stop.Events at t = Cut file at t
-cellsRead file (stop.Refused x) at t = readFile file ≡ Reading.refused x at
+cellsRead file (stop.Refused x) at t = (readFile file ≡ Reading.refused x at) × (t ≡ emptyTable)
 
 -- The same of the reader's reply.
 abbrev pub CellsRead : List ℕ → Cells → Type 0

@@ -18,12 +18,12 @@ use Rattle.casefile.specs.declared.record.Record.the-variants as rec
 use Rattle.casefile.specs.declared.cells.Table.{Table}
 use Rattle.casefile.specs.declared.cells.Section.{Section}
 use Rattle.casefile.specs.declared.cells.Section.the-variants as section
-use Rattle.casefile.specs.declared.events.EventStep.{EventStep}
-use Rattle.casefile.specs.declared.events.EventStep.the-variants as step
+use Rattle.casefile.specs.declared.rest.EventStep.{EventStep}
+use Rattle.casefile.specs.declared.rest.EventStep.the-variants as step
 use Rattle.casefile.specs.declared.events.Events.{Events}
 use Rattle.casefile.specs.declared.events.Verdict.{Verdict}
 use Rattle.casefile.specs.declared.events.Verdict.the-variants as verdict
-use Rattle.casefile.specs.declared.events.EventsEnd.{EventsEnd}
+use Rattle.casefile.specs.declared.rest.EventsEnd.{EventsEnd}
 use Rattle.casefile.specs.Cells.{stored, Begun}
 
 -- The section of the events.

@@ -31,7 +31,7 @@ pub enum Section {
 }
 
 // What is found where a cell record may stand: one more cell, the events' first record, or a fault.
-pub enum CellStep {
+enum CellStep {
     Next(Cell),
     Events,
     Refused(u8),
@@ -80,7 +80,7 @@ fn stored_cell(kind: u8, first: u8, second: u8) -> Cell
 }
 
 // The cell of a cell record; of any other record an atom.
-pub fn cell_of(r: Record) -> Cell
+fn cell_of(r: Record) -> Cell
     ensures { λ c. ⌜ c ≡ cellFor r ⌝ }
 {
     match r {
@@ -96,7 +96,7 @@ pub fn cell_of(r: Record) -> Cell
 }
 
 // Every part's number is below n. The first field of an application is a function.
-pub fn parts_below(c: Cell, n: usize) -> bool
+fn parts_below(c: Cell, n: usize) -> bool
     ensures { λ r. ⌜ r ≡ partsBelow c n ⌝ }
 {
     if c.kind < 2 {
@@ -112,14 +112,14 @@ pub fn parts_below(c: Cell, n: usize) -> bool
 }
 
 // The bytes of a cell's record.
-pub fn size_of(c: Cell) -> usize
+fn size_of(c: Cell) -> usize
     ensures { λ r. ⌜ r ≡ sizeOf c ⌝ }
 {
     if c.kind == 1 { 2 } else { 4 }
 }
 
 // The cell record with the mark at `at`, after n cells.
-pub fn whole_cell(file: &[u8], at: usize, n: usize, mark: Mark) -> CellStep
+fn whole_cell(file: &[u8], at: usize, n: usize, mark: Mark) -> CellStep
     requires { ⌜ mark ≡ markAt (drop at (now file)) ⌝ }
     requires { ⌜ sectionOf mark ≡ inCells ⌝ }
     ensures { λ r. ⌜ cellSays (drop at (now (file .entry))) n r ⌝ }
@@ -140,7 +140,7 @@ pub fn whole_cell(file: &[u8], at: usize, n: usize, mark: Mark) -> CellStep
 }
 
 // What stands at `at`, after n cells.
-pub fn cell_step(file: &[u8], at: usize, n: usize) -> CellStep
+fn cell_step(file: &[u8], at: usize, n: usize) -> CellStep
     ensures { λ r. ⌜ cellSays (drop at (now (file .entry))) n r ⌝ }
 {
     let mark = super::record::mark_at(file, at);
@@ -165,7 +165,7 @@ pub fn empty_table() -> Table
 }
 
 // The table with one cell more.
-pub fn with_cell(t: Table, c: Cell) -> Table
+fn with_cell(t: Table, c: Cell) -> Table
     requires { ⌜ t .cells < 128 ⌝ }
     ensures { λ r. ⌜ r ≡ withCell t c ⌝ }
 {
@@ -178,7 +178,7 @@ pub fn with_cell(t: Table, c: Cell) -> Table
     u
 }
 
-// The cell records from the front of a file.
+// The cell records from the front of a file; a refusal comes with no cell.
 pub fn read_cells(file: &[u8]) -> Cells
     ensures { λ r. ⌜ CellsRead (now (file .entry)) r ⌝ }
 {
@@ -196,7 +196,7 @@ pub fn read_cells(file: &[u8]) -> Cells
             CellStep::Refused(number) => return Cells {
                 stop: Stop::Refused(number),
                 at: at,
-                table: t,
+                table: empty_table(),
             },
             CellStep::Next(c) => {
                 t = with_cell(t, c);

@@ -1,7 +1,8 @@
 // The reader of case files: from any bytes to a table and events by value, or to a refusal with its number and place.
-pub mod cells;
+mod cells;
 pub mod events;
-pub mod record;
+mod record;
+mod rest;
 
 use cells::Stop;
 use cells::Table;
@@ -27,7 +28,7 @@ pub struct Case {
 }
 
 // The offset of the first variable of a table of n cells: the records of the cells before it have four bytes each.
-pub fn first_variable(kind: &[u8; 128], n: usize) -> Found
+fn first_variable(kind: &[u8; 128], n: usize) -> Found
     requires { ⌜ n ≤ 128 ⌝ }
     ensures { λ r. ⌜ VariableFound (now (kind .entry)) n r ⌝ }
 {
@@ -42,13 +43,13 @@ pub fn first_variable(kind: &[u8; 128], n: usize) -> Found
 }
 
 // The reply to a refused file.
-pub fn refused(number: u8, place: usize) -> Case
+fn refused(number: u8, place: usize) -> Case
     ensures { λ r. ⌜ r ≡ refusal number place ⌝ }
 {
     Case {
         verdict: Verdict::Refused(number, place),
         table: cells::empty_table(),
-        events: events::no_events(),
+        events: rest::no_events(),
         variable: Found::Nowhere,
     }
 }
@@ -64,7 +65,7 @@ pub fn read_case(file: &[u8]) -> Case
     match stop {
         Stop::Refused(number) => refused(number, at),
         Stop::Events => {
-            let end = events::read_events(&file[at..], at, t);
+            let end = rest::read_events(&file[at..], at, t);
             let verdict = end.verdict;
             let events = end.events;
             match verdict {

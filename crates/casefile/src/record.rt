@@ -38,7 +38,7 @@ pub enum Fields {
 }
 
 // The two bytes at `at` are those of `mark`.
-pub fn begins_with(file: &[u8], at: usize, mark: &[u8; 2]) -> bool
+fn begins_with(file: &[u8], at: usize, mark: &[u8; 2]) -> bool
     requires { ⌜ at + 2 ≤ length (now file) ⌝ }
     ensures { λ r. ⌜ r ≡ begins (drop at (now (file .entry))) (now (mark .entry)) ⌝ }
 {
@@ -50,7 +50,7 @@ pub fn begins_with(file: &[u8], at: usize, mark: &[u8; 2]) -> bool
 }
 
 // The mark of which both bytes stand at `at`.
-pub fn whole_mark(file: &[u8], at: usize) -> Mark
+fn whole_mark(file: &[u8], at: usize) -> Mark
     requires { ⌜ at + 2 ≤ length (now file) ⌝ }
     ensures { λ r. ⌜ r ≡ markAt (drop at (now (file .entry))) ⌝ }
 {
@@ -95,7 +95,7 @@ pub fn mark_at(file: &[u8], at: usize) -> Mark
 }
 
 // How many bytes of fields follow a mark.
-pub fn width_of(mark: Mark) -> usize
+fn width_of(mark: Mark) -> usize
     ensures { λ r. ⌜ r ≡ widthOf mark ⌝ }
 {
     match mark {
@@ -113,21 +113,21 @@ pub fn width_of(mark: Mark) -> usize
 }
 
 // The byte at i, or 0 past the end.
-pub fn byte(file: &[u8], i: usize) -> u8
+fn byte(file: &[u8], i: usize) -> u8
     ensures { λ r. ⌜ r ≡ getD (now (file .entry)) i 0 ⌝ }
 {
     if i < file.len() { file[i] } else { 0 }
 }
 
 // A number of two bytes, the high byte first.
-pub fn word_of(high: u8, low: u8) -> u16
+fn word_of(high: u8, low: u8) -> u16
     ensures { λ r. ⌜ r ≡ word high low ⌝ }
 {
     (high as u16) * 256 + (low as u16)
 }
 
 // The record of a known mark with the field bytes a and b.
-pub fn record_of(mark: Mark, a: u8, b: u8) -> Record
+fn record_of(mark: Mark, a: u8, b: u8) -> Record
     ensures { λ r. ⌜ r ≡ recordFor mark a b ⌝ }
 {
     match mark {

@@ -11,3 +11,4 @@ pub mod KeyLaws
 pub mod LinkLaws
 pub mod UpwardLaws
 pub mod ClashLaws
+pub mod SettledLaws

@@ -17,6 +17,7 @@ use Rattle.model.specs.Stored.{cellAt, tableAt}
 use Rattle.model.proofs.Rows.{zeros}
 use Rattle.theory.specs.Cells.{Rows, On, classAt}
 use Rattle.theory.proofs.Answers.{round-no}
+use Rattle.theory.proofs.Classes.{all-done}
 use Rattle.theory.proofs.Rows.{rows-beyond, rows-part}
 use Rattle.classes.specs.Kept.{Kept, Finite, Unmet}
 use Rattle.classes.specs.Peel.{Done, classTable, Peeled, Fresh, undone, Peels}
@@ -176,3 +177,9 @@ module _ {n : ℕ} {kinds firsts seconds rep : List ℕ} (w : Rows n kinds first
       round-no (tableAt kinds firsts seconds) (classAt rep) (λ c. On marks (min c n))
       (λ c parts. shut (min c n) (omega arith) (λ d p. subst (On marks) (part-low (min c n) d p) (parts d (subst (λ k. Part (tableAt kinds firsts seconds k) d) (sym (class-min c)) p))))
       c (λ o. no-c (subst (On marks) (min-eq-left (omega arith)) o))
+
+  -- Such classes come round.
+  pub peeled-endless : ((c : ℕ) → c < n + 1 → Done marks (S c) → On marks c) → (c : ℕ) → c < n + 1 → (On marks c → ⊥) → Finite (tableAt kinds firsts seconds) (classAt rep) → ⊥
+  peeled-endless shut c h no-c (rank, ranked) =
+      no-c (subst (On marks) (min-eq-left (omega arith)) (all-done S rank ranked (λ c. On marks (min c n))
+      (λ c parts. shut (min c n) (omega arith) (λ d p. subst (On marks) (part-low (min c n) d p) (parts d (subst (λ k. Part (tableAt kinds firsts seconds k) d) (sym (class-min c)) p)))) c))

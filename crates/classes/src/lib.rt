@@ -18,20 +18,20 @@ ghost use Rattle.classes.specs.Settle.{Asks, sameOf, Bound, Sweeps, Sett
 ghost use Rattle.classes.specs.Peel.{Done, classTable, Peeled, Fresh, Peels, AllDone};
 
 // How two cells differ: not at all, in kind, name or function, or in two parts that are to be joined.
-pub enum Diff {
+enum Diff {
     Same,
     Clash,
     Parts(u8, u8),
 }
 
 // Whether a binding step found no clash, and whether it joined.
-pub struct Step {
+struct Step {
     pub ok: bool,
     pub changed: bool,
 }
 
 // The classes after joins, whether there were any, and whether no clash was found.
-pub struct Swept {
+struct Swept {
     pub ok: bool,
     pub changed: bool,
     pub rep: [u8; 129],
@@ -44,7 +44,7 @@ pub struct Settled {
 }
 
 // Marks of cells that come round nowhere, and whether there are more than before.
-pub struct Peeling {
+struct Peeling {
     pub changed: bool,
     pub done: [u8; 129],
 }
@@ -59,7 +59,7 @@ pub fn entry(row: &[u8; 128], c: u8) -> u8
 }
 
 // The cell that stands for the class of c.
-pub fn class_of(rep: &[u8; 129], c: u8) -> u8
+fn class_of(rep: &[u8; 129], c: u8) -> u8
     ensures { λ r. ⌜ r ≡ classAt (now (rep .entry)) c ⌝ }
 {
     let i = c as usize;
@@ -67,7 +67,7 @@ pub fn class_of(rep: &[u8; 129], c: u8) -> u8
 }
 
 // Which of two representatives stands for both classes: the one that is no variable, else the lower.
-pub fn stands<'a>(
+fn stands<'a>(
     kind: &'a [u8; 128],
     first: &'a [u8; 128],
     second: &'a [u8; 128],
@@ -94,7 +94,7 @@ pub fn stands<'a>(
 }
 
 // Every cell of the class o is of the class r.
-pub fn relabel(rep: [u8; 129], o: u8, r: u8) -> [u8; 129]
+fn relabel(rep: [u8; 129], o: u8, r: u8) -> [u8; 129]
     ensures { λ out. ⌜ Relabelled rep o r out ⌝ }
 {
     let mut out = rep;
@@ -183,7 +183,7 @@ fn fields(rep: &[u8; 129], k: u8, a: u8, b: u8, x: u8, y: u8) -> Diff
 }
 
 // The cells c and d, by the classes of their parts. A variable is alike no cell.
-pub fn compare<'a>(
+fn compare<'a>(
     kind: &'a [u8; 128],
     first: &'a [u8; 128],
     second: &'a [u8; 128],
@@ -275,7 +275,7 @@ pub fn start<'a>(
 }
 
 // The cell c with the one that stands for its class.
-pub fn differ<'a>(
+fn differ<'a>(
     kind: &'a [u8; 128],
     first: &'a [u8; 128],
     second: &'a [u8; 128],
@@ -305,7 +305,7 @@ fn same(d: Diff) -> bool
 }
 
 // One binding step: what the cell c asks for is joined, or it clashes.
-pub fn bind<'a, 'b>(
+fn bind<'a, 'b>(
     kind: &'a [u8; 128],
     first: &'a [u8; 128],
     second: &'a [u8; 128],
@@ -334,7 +334,7 @@ pub fn bind<'a, 'b>(
 
 // Binding steps at the first cell beyond the table's, which shows his own name, and downwards at each of its cells, until it asks for nothing:
 // parts lie lower, so what a join asks for is mostly found on the way.
-pub fn sweep<'a>(
+fn sweep<'a>(
     kind: &'a [u8; 128],
     first: &'a [u8; 128],
     second: &'a [u8; 128],
@@ -399,7 +399,7 @@ pub fn settle<'a>(
 }
 
 // Whether the cell c is marked.
-pub fn marked(marks: &[u8; 129], c: u8) -> bool
+fn marked(marks: &[u8; 129], c: u8) -> bool
     requires { ⌜ length (now marks) ≡ 129 ⌝ }
     ensures { λ r. ⌜ r ≡ eqb (getD (now (marks .entry)) c 0) 1 ⌝ }
 {
@@ -511,7 +511,8 @@ pub fn acyclic<'a>(
     requires { ⌜ Rows n (now kind) (now first) (now second) ⌝ }
     requires { ⌜ Kept n (tableAt (now kind) (now first) (now second)) rep ⌝ }
     ensures yes { λ r. ⌜ (r ≡ true → Finite (tableAt (now (kind .entry)) (now (first .entry)) (now (second .entry))) (classAt rep)) ⌝ }
-    ensures no { λ r. ⌜ (r ≡ false → Unmet (tableAt (now (kind .entry)) (now (first .entry)) (now (second .entry))) (classAt rep)) ⌝ }
+    ensures no { λ r. ⌜ (r ≡ false → Unmet (tableAt (now (kind .entry)) (now (first .entry)) (now (second .entry))) (classAt rep) ×
+        (Finite (tableAt (now (kind .entry)) (now (first .entry)) (now (second .entry))) (classAt rep) → ⊥)) ⌝ }
 {
     let mut done = [0u8; 129];
     loop {

@@ -15,7 +15,7 @@ ghost use Rattle.classes.specs.Links.{mixOf, keyOf, Downward};
 ghost use Rattle.classes.specs.Upward.{FellowTold, Fellow, Meets, Lifts, Raised};
 
 // The classes after joins, and whether there were any.
-pub struct Lifted {
+struct Lifted {
     pub changed: bool,
     pub rep: [u8; 129],
 }

@@ -1,10 +1,10 @@
 // What comes to light where a cell over a free class is equal to one that may be seen.
 use super::meets::may;
+use wants::Pick;
+use wants::Swept;
+use wants::ends;
 use wants::sets::holds;
 use wants::sets::over;
-use wants::spread::Swept;
-use wants::starts::Pick;
-use wants::starts::ends;
 ghost use Prim.Native.Nat.{_≤_, _<_};
 ghost use Rattle.model.specs.Stored.{tableAt};
 ghost use Rattle.theory.specs.Cells.{Rows, EventRows};

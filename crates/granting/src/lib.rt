@@ -3,4 +3,6 @@
 pub mod grants;
 mod leaks;
 pub mod line;
-pub mod meets;
+mod meets;
+
+pub use meets::kin;

@@ -2,7 +2,7 @@
 use super::meets::kin;
 use classes::clash::clash;
 use knowledge::class_of;
-use wants::starts::ends;
+use wants::ends;
 ghost use Prim.Native.Nat.{_<_};
 ghost use Rattle.model.specs.Stored.{tableAt};
 ghost use Rattle.theory.specs.Cells.{Rows};

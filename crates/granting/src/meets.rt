@@ -2,7 +2,7 @@
 use classes::clash::clash;
 use classes::unify;
 use knowledge::class_of;
-use wants::spread::Swept;
+use wants::Swept;
 ghost use mathlib.Core.Path.{_≡_};
 ghost use mathlib.Core.Bool.{false};
 ghost use mathlib.Core.List.{List};

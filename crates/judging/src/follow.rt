@@ -10,7 +10,7 @@ ghost use Rattle.classes.specs.Kept.{Kept};
 ghost use Rattle.judging.specs.Follow.{Inside, Binds, Gathers, Follows};
 
 // The cell c, if it is a variable, in one class with the cell x.
-pub fn bind_entry<'a>(
+fn bind_entry<'a>(
     kind: &'a [u8; 128],
     first: &'a [u8; 128],
     second: &'a [u8; 128],
@@ -32,7 +32,7 @@ pub fn bind_entry<'a>(
 }
 
 // The entries of the list as equalities of the classes.
-pub fn gather<'a>(
+fn gather<'a>(
     kind: &'a [u8; 128],
     first: &'a [u8; 128],
     second: &'a [u8; 128],

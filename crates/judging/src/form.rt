@@ -5,7 +5,7 @@ ghost use lib.ListN.{length};
 ghost use Rattle.judging.specs.Form.{Fits, FirstBad, Owned};
 
 // Has the entry x of the cell c the form: for a variable a cell that is no variable, or 255; for any other cell its own number?
-pub fn fits(kind: &[u8; 128], n: usize, c: usize, x: u8) -> bool
+fn fits(kind: &[u8; 128], n: usize, c: usize, x: u8) -> bool
     requires { ⌜ n ≤ 128 ⌝ }
     requires { ⌜ c < n ⌝ }
     ensures { λ r. ⌜ Fits (now (kind .entry)) n c x r ⌝ }

@@ -1,7 +1,7 @@
 // The question list check: is a value list, from anyone, right for a case file?
-pub mod follow;
-pub mod form;
-pub mod made;
+mod follow;
+mod form;
+mod made;
 
 use casefile::events::Verdict;
 ghost use mathlib.Core.Path.{_≡_};

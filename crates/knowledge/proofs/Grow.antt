@@ -33,7 +33,7 @@ missing-down m j h = elim (on? m j) [
   | inr n ↦ omega (arith, missing-fewer m j h n)
 ]
 
-set-bits : (m : List ℕ) (j i : ℕ) → j < length m → getD m i 0 ≤ 1 → getD (set m j 1) i 0 ≤ 1
+pub set-bits : (m : List ℕ) (j i : ℕ) → j < length m → getD m i 0 ≤ 1 → getD (set m j 1) i 0 ≤ 1
 set-bits m j i h b = elim (eq? i j) [
   | inl q ↦ subst (λ k. getD (set m j 1) k 0 ≤ 1) (sym q) (omega (arith, set-on m j h))
   | inr n ↦ omega (arith, getD-set-other m j i 1 0 n)

@@ -3,7 +3,7 @@ use mathlib.Core.Path.{_≡_, sym, _∙_}
 use mathlib.Core.Logic.{_↔_}
 use mathlib.Core.List.{List}
 use mathlib.Core.Option.{some, none}
-use Prim.Native.Nat.{ℕ, _+_, _<_}
+use Prim.Native.Nat.{ℕ, _+_, _≤_, _<_}
 use lib.ListN.{length, getD}
 use Rattle.model.specs.Message.{Message, atom}
 use Rattle.model.specs.Case.{VA, MK, LN, File, Ground, tableOf, runOf}
@@ -16,11 +16,12 @@ use Rattle.model.proofs.Accepted.{accepted-file}
 use Rattle.model.proofs.Variables.{Solid, no-variable}
 use Rattle.theory.specs.Cells.{Rows, classAt}
 use Rattle.theory.proofs.Rows.{rows-formed}
+use Rattle.theory.proofs.Sweep.{mark-later}
 use Rattle.classes.specs.Twins.{Start}
 use Rattle.classes.proofs.TwinLaws.{start-twins}
 use Rattle.knowledge.specs.declared.Marks.{Marks}
 use Rattle.knowledge.specs.declared.heard.Knowledge.{Knowledge}
-use Rattle.knowledge.specs.Knowledge.{ClassRow, Learns, Opened}
+use Rattle.knowledge.specs.Knowledge.{ClassRow, Learns, Starts, Opened}
 use Rattle.knowledge.specs.Heard.{LearntAll, HeardOpened, FileKnown}
 use Rattle.knowledge.proofs.ClassRows.{kept-row}
 use Rattle.knowledge.proofs.Grow.{noMarks, none-marked}
@@ -48,12 +49,12 @@ module _ {n : ℕ} {rep : List ℕ} (w : ClassRow n rep) (m : ℕ) (kinds cells 
 -- ---- the first classes, opened
 
 pub heard-opened : {n : ℕ} {K F S rep start : List ℕ} {r : Marks} → Rows n K F S → Start n (tableAt K F S) rep → (m : ℕ) (kinds cells : List ℕ) →
-    LearntAll rep (runAt m kinds cells) m start → Opened (tableAt K F S) rep start r →
-    HeardOpened n (tableAt K F S) (runAt m kinds cells) (record { rep = rep; seen = r .seen; built = r .built })
-heard-opened {n} {K} {F} {S} {rep} w s m kinds cells all o = record {
+    m ≤ 128 → LearntAll rep (runAt m kinds cells) m start → Opened (tableAt K F S) rep start r →
+    HeardOpened n (tableAt K F S) (runAt m kinds cells) (record { rep = rep; built = r .built })
+heard-opened {n} {K} {F} {S} {rep} {start} w s m kinds cells few all o = record {
   classes = s;
-  seen-marked = o .seen-marked;
   built-marked = o .built-marked;
+  made = o .built (runAt m kinds cells) 128 behind;
   exact = exact;
   built = λ solid msg g. built-iff-heard o (runAt m kinds cells) m (all .starts (tableAt K F S)) (kept-row w (s .solved .kept)) (rows-formed w) solid msg g
       (exact solid msg g) (λ q c i. run-below m kinds cells q i);
@@ -62,6 +63,13 @@ heard-opened {n} {K} {F} {S} {rep} w s m kinds cells all o = record {
     exact : ((c : ℕ) → tableAt K F S c ≡ VA → ⊥) → (msg : ℕ → Message) → Ground (tableAt K F S) msg → (c d : ℕ) → (msg c ≡ msg d) ↔ (classAt rep c ≡ classAt rep d)
     exact = start-twins n (tableAt K F S) rep s
 
+    -- Behind all events the same is learnt.
+    behind : Starts (tableAt K F S) rep (runAt m kinds cells) 128 start
+    behind = record {
+      low = λ c (q, lt, e). all .starts (tableAt K F S) .low c (q, run-below m kinds cells q e, e);
+      high = λ c x. mark-later (tableAt K F S) (classAt rep) (runAt m kinds cells) m (s .solved .kept .reps .idem) few (all .starts (tableAt K F S) .high c x);
+    }
+
 -- ---- of an accepted file
 
 -- Without variables the classes and marks that are found speak of the file's messages.
@@ -69,7 +77,6 @@ pub file-known : (s : List ℕ) (f : File) → readFile s ≡ accepted f → {r 
     HeardOpened (length (f .cells)) (tableOf (f .cells)) (runOf (f .events)) r → FileKnown f r
 file-known s f e free o = record {
   classes = o .classes;
-  seen-marked = o .seen-marked;
   built-marked = o .built-marked;
   exact = o .exact solid (messagesOf f) reads;
   built = o .built solid (messagesOf f) reads;

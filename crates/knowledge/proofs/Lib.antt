@@ -7,3 +7,4 @@ pub mod Closing
 pub mod Ground
 pub mod Start
 pub mod HeardLaws
+pub mod SettledLaws

@@ -1,14 +1,13 @@
-// What he can build from all that is learnt, for a table without variables: the classes of equal messages, and which of them are seen and built.
+// What he can build from all that is learnt, for a table without variables: the classes of equal messages, and which of them are built.
 ghost use Prim.Native.Nat.{_≤_};
 ghost use Rattle.model.specs.Stored.{tableAt, runAt};
 ghost use Rattle.theory.specs.Cells.{Rows, EventRows};
 ghost use Rattle.knowledge.specs.Knowledge.{ClassRow};
 ghost use Rattle.knowledge.specs.Heard.{LearntAll, HeardOpened};
 
-// The class array of a table, and the marks, 0 or 1, of the classes that are seen and of those that can be built.
+// The class array of a table, and the marks, 0 or 1, of the classes that can be built.
 pub struct Knowledge {
     pub rep: [u8; 129],
-    pub seen: [u8; 129],
     pub built: [u8; 129],
 }
 
@@ -54,11 +53,9 @@ pub fn open_heard<'a>(
     let rep = classes::start(kind, first, second, n);
     let learnt = learn_all(n, &rep, asks, aims, count);
     let marks = super::open_known(kind, first, second, n, &rep, learnt);
-    let seen = marks.seen;
     let built = marks.built;
     Knowledge {
         rep: rep,
-        seen: seen,
         built: built,
     }
 }

@@ -7,7 +7,7 @@ ghost use Rattle.theory.specs.Cells.{Rows};
 ghost use Rattle.reducing.specs.Bare.{heightAt, Heights};
 
 // What a row says of the cell d; 0 past its end.
-pub fn row_at(bytes: [u8; 129], d: u8) -> u8
+fn row_at(bytes: [u8; 129], d: u8) -> u8
     ensures { λ r. ⌜ r ≡ getD bytes d 0 ⌝ }
 {
     if d < 129 {
@@ -17,7 +17,7 @@ pub fn row_at(bytes: [u8; 129], d: u8) -> u8
 }
 
 // The height of a cell's message, from those of its parts.
-pub fn height_of(kind: u8, first: u8, second: u8, heights: [u8; 129]) -> u8
+fn height_of(kind: u8, first: u8, second: u8, heights: [u8; 129]) -> u8
     requires { ⌜ ((d : ℕ) → getD heights d 0 < 255) ⌝ }
     ensures { λ r. ⌜ r ≡ heightAt (λ d. getD heights d 0) (cellAt kind first second) ⌝ }
 {

@@ -19,13 +19,7 @@ pub fn class_of<'a>(rep: &'a [u8; 129], d: u8) -> usize
 }
 
 // Whether a cell that is no variable is name 0 or composed of built parts.
-pub fn is_idle<'a>(
-    kind: u8,
-    first: u8,
-    second: u8,
-    rep: &'a [u8; 129],
-    built: &'a [u8; 129],
-) -> bool
+fn is_idle<'a>(kind: u8, first: u8, second: u8, rep: &'a [u8; 129], built: &'a [u8; 129]) -> bool
     requires { ⌜ ((c : ℕ) → getD (now rep) c 0 ≤ 128) × (kind ≡ 1 → ⊥) ⌝ }
     ensures { λ r. ⌜ Tells (Idle (BuiltClass (now (rep .entry)) (now (built .entry))) (cellAt kind first second)) r ⌝ }
 {
@@ -47,7 +41,7 @@ pub fn is_idle<'a>(
 }
 
 // Whether the cell c is bare and not name 0, and stands for its class.
-pub fn is_bare<'a>(
+fn is_bare<'a>(
     c: usize,
     kind: u8,
     first: u8,
@@ -92,7 +86,7 @@ pub fn bare<'a>(
 }
 
 // The marks, with those on the classes of a cell's parts.
-pub fn with_parts<'a>(
+fn with_parts<'a>(
     marks: [u8; 129],
     kind: u8,
     first: u8,

@@ -9,7 +9,7 @@ ghost use Rattle.reducing.specs.Given.{Given};
 ghost use Rattle.reducing.specs.Plan.{tally, emptyPlan, putRow, Laid};
 
 // The plan without cells.
-pub fn empty_plan() -> Plan
+fn empty_plan() -> Plan
     ensures { λ r. ⌜ r ≡ emptyPlan ⌝ }
 {
     Plan {
@@ -23,7 +23,7 @@ pub fn empty_plan() -> Plan
 }
 
 // One, where a byte is a mark.
-pub fn tally_of(b: u8) -> usize
+fn tally_of(b: u8) -> usize
     ensures { λ r. ⌜ (r ≡ tally b) × (r ≤ 1) ⌝ }
 {
     if b == 1 {
@@ -33,7 +33,7 @@ pub fn tally_of(b: u8) -> usize
 }
 
 // The plan with one more row, learnt if b is a mark.
-pub fn put_row(plan: Plan, kind: u8, first: u8, second: u8, b: u8) -> Plan
+fn put_row(plan: Plan, kind: u8, first: u8, second: u8, b: u8) -> Plan
     requires { ⌜ (plan .cells < 128) × (plan .events ≤ plan .cells) ⌝ }
     ensures { λ r. ⌜ r ≡ putRow plan kind first second b ⌝ }
 {

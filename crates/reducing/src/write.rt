@@ -12,7 +12,7 @@ ghost use Rattle.reducing.specs.Bytes.{kindMark};
 ghost use Rattle.reducing.specs.Plan.{planned, Sized};
 
 // The two bytes of a mark.
-pub fn put_mark(out: &mut [u8], at: usize, text: &[u8; 2])
+fn put_mark(out: &mut [u8], at: usize, text: &[u8; 2])
     requires { ⌜ at + 2 ≤ length (now out) ⌝ }
     ensures { λ _. ⌜ now (out .exit) ≡ sets (now (out .entry)) at (getD (now (text .entry)) 0 0 ∷ getD (now (text .entry)) 1 0 ∷ []) ⌝ }
 {
@@ -21,7 +21,7 @@ pub fn put_mark(out: &mut [u8], at: usize, text: &[u8; 2])
 }
 
 // The mark of a kind.
-pub fn put_kind(out: &mut [u8], at: usize, kind: u8)
+fn put_kind(out: &mut [u8], at: usize, kind: u8)
     requires { ⌜ (at + 2 ≤ length (now out)) × (kind ≡ 1 → ⊥) ⌝ }
     ensures { λ _. ⌜ now (out .exit) ≡ sets (now (out .entry)) at (kindMark kind) ⌝ }
 {
@@ -41,7 +41,7 @@ pub fn put_kind(out: &mut [u8], at: usize, kind: u8)
 }
 
 // The record of a cell.
-pub fn put_cell(out: &mut [u8], at: usize, kind: u8, first: u8, second: u8)
+fn put_cell(out: &mut [u8], at: usize, kind: u8, first: u8, second: u8)
     requires { ⌜ (at + 4 ≤ length (now out)) × (kind ≡ 1 → ⊥) ⌝ }
     ensures { λ _. ⌜ now (out .exit) ≡ sets (now (out .entry)) at (cellBytes (cellAt kind first second)) ⌝ }
 {
@@ -51,7 +51,7 @@ pub fn put_cell(out: &mut [u8], at: usize, kind: u8, first: u8, second: u8)
 }
 
 // The record of an event: the cell c is learnt.
-pub fn put_learn(out: &mut [u8], at: usize, c: u8)
+fn put_learn(out: &mut [u8], at: usize, c: u8)
     requires { ⌜ at + 3 ≤ length (now out) ⌝ }
     ensures { λ _. ⌜ now (out .exit) ≡ sets (now (out .entry)) at (eventBytes (LN c)) ⌝ }
 {

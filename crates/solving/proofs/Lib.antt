@@ -3,3 +3,4 @@ pub mod PairLaws
 pub mod PlanLaws
 pub mod ChildLaws
 pub mod SearchLaws
+pub mod SettledLaws

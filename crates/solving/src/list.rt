@@ -6,7 +6,7 @@ ghost use Rattle.model.specs.Stored.{tableAt};
 ghost use Rattle.solving.specs.Listing.{Valued, Entered, Listed};
 
 // The entry of a variable whose class the cell r stands for.
-pub fn value_of<'a>(kind: &'a [u8; 128], n: usize, r: usize) -> u8
+fn value_of<'a>(kind: &'a [u8; 128], n: usize, r: usize) -> u8
     requires { ⌜ n ≤ 128 ⌝ }
     ensures { λ x. ⌜ ((firsts seconds : List ℕ) → Valued (tableAt (now (kind .entry)) firsts seconds) n r x) ⌝ }
 {
@@ -20,7 +20,7 @@ pub fn value_of<'a>(kind: &'a [u8; 128], n: usize, r: usize) -> u8
 }
 
 // The entry of the cell c.
-pub fn entry_of<'a>(kind: &'a [u8; 128], n: usize, rep: &'a [u8; 129], c: usize) -> u8
+fn entry_of<'a>(kind: &'a [u8; 128], n: usize, rep: &'a [u8; 129], c: usize) -> u8
     requires { ⌜ n ≤ 128 ⌝ }
     requires { ⌜ c < n ⌝ }
     ensures { λ x. ⌜ ((firsts seconds : List ℕ) → Entered (tableAt (now (kind .entry)) firsts seconds) n (now (rep .entry)) c x) ⌝ }

@@ -1,5 +1,5 @@
 // Pairs of cells that may have to be made equal.
-use granting::meets::kin;
+use granting::kin;
 use knowledge::class_of;
 ghost use mathlib.Core.List.{List};
 ghost use Prim.Native.Nat.{ℕ, _≤_, _<_};
@@ -15,7 +15,7 @@ pub enum Next {
 }
 
 // Does the pair of c and d also stand the other way round, and earlier?
-pub fn mirrored<'a>(want: &'a [u8; 129], bare: &'a [u8; 129], c: usize, d: usize) -> bool
+fn mirrored<'a>(want: &'a [u8; 129], bare: &'a [u8; 129], c: usize, d: usize) -> bool
     requires { ⌜ c < 128 ⌝ }
     requires { ⌜ d < 128 ⌝ }
     ensures { λ r. ⌜ Decides r (Mirrored (now (want .entry)) (now (bare .entry)) c d) ⌝ }
@@ -60,7 +60,7 @@ pub fn pairing<'a>(
 }
 
 // Is there more to see in the row of c, from d on?
-pub fn in_row<'a>(want: &'a [u8; 129], n: usize, c: usize, d: usize) -> bool
+fn in_row<'a>(want: &'a [u8; 129], n: usize, c: usize, d: usize) -> bool
     requires { ⌜ c < 128 ⌝ }
     ensures { λ r. ⌜ Decides r (On (now (want .entry)) c × (d < n)) ⌝ }
 {

@@ -10,8 +10,8 @@ use knowledge::class_of;
 use knowledge::learn;
 use knowledge::open_known;
 use knowledge::own_marks;
+use wants::bares;
 use wants::sets::wanted;
-use wants::starts::bares;
 ghost use mathlib.Core.Path.{_≡_};
 ghost use mathlib.Core.Bool.{true, false};
 ghost use Prim.Native.Nat.{_≤_, _<_, _+_};
@@ -26,7 +26,7 @@ ghost use Rattle.granting.specs.Line.{Whole};
 ghost use Rattle.solving.specs.Plans.{Chosen, Better, Reopened, Costing, StageRows, MadeStage, HeardStage, Stepped, Plans};
 
 // Wanted and bare cells, of which pairs are to be tried. How many pairs are live is a guide only.
-pub struct Trial {
+struct Trial {
     pub pairs: u8,
     pub want: [u8; 129],
     pub bare: [u8; 129],
@@ -44,7 +44,7 @@ pub struct Choice {
 
 // What is known before a position: the marks of what is seen and built, what is granted, and the best plan so far.
 // Fresh: nothing was learnt since the marks were found; else only those of what is seen are to be started from.
-pub struct Stage {
+struct Stage {
     pub fresh: bool,
     pub seen: [u8; 129],
     pub built: [u8; 129],
@@ -372,7 +372,7 @@ fn hear<'a>(n: usize, rep: &'a [u8; 129], x: u8, st: Stage) -> Stage
 {
     let seen = st.seen;
     let built = st.built;
-    let best = st.best;
+    let so_far = st.best;
     let grant = st.grant;
     let lit = grant.seen;
     let had = grant.built;
@@ -391,7 +391,7 @@ fn hear<'a>(n: usize, rep: &'a [u8; 129], x: u8, st: Stage) -> Stage
             bare: bare,
             costs: costs,
         },
-        best: best,
+        best: so_far,
     }
 }
 

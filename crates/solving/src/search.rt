@@ -18,7 +18,7 @@ ghost use Rattle.solving.specs.Pairs.{place, ChildOf};
 ghost use Rattle.solving.specs.Searches.{Searched, Solves};
 
 // The classes that the next pair gives, if there is one, and the cells where the next pairs begin.
-pub struct Child {
+struct Child {
     pub ok: bool,
     pub c: usize,
     pub d: usize,
@@ -26,7 +26,7 @@ pub struct Child {
 }
 
 // Yes with classes, or no.
-pub struct Found {
+struct Found {
     pub yes: bool,
     pub rep: [u8; 129],
 }

@@ -2,3 +2,4 @@ pub mod Rowing
 pub mod StartLaws
 pub mod SpreadLaws
 pub mod SetLaws
+pub mod SettledLaws

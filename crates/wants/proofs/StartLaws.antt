@@ -1,13 +1,15 @@
 -- The loops that make the rows to start from, and that the row of bare cells has them.
 use mathlib.Core.Path.{_≡_, refl, sym, _∙_, subst}
+use mathlib.Core.Logic.{inl, inr}
 use mathlib.Core.List.{List}
 use Prim.Native.Nat.{ℕ, zero, suc, _+_, _≤_, _<_}
 use native.Mathlib.Omega.{arith}
-use lib.ListN.{length, getD, set, length-set}
+use lib.ListN.{length, getD, set, length-set, replicate, length-replicate}
 use borrow.Author.Count.{below-more}
-use Rattle.model.specs.Case.{PR, Table, Run, Part}
+use Rattle.model.specs.Case.{Cell, PR, Table, Run, Part, in-arg, in-left}
 use Rattle.model.specs.Stored.{cellAt, tableAt}
 use Rattle.model.proofs.Read.{clash}
+use Rattle.model.proofs.Rows.{zeros}
 use Rattle.model.proofs.Stored.{seal-kind}
 use Rattle.theory.specs.Cells.{Rows, EventRows, Makes, Opening, classAt, On}
 use Rattle.theory.specs.Sweep.{Swept}
@@ -15,8 +17,9 @@ use Rattle.theory.specs.Cut.{Bares}
 use Rattle.theory.proofs.Rows.{rows-part}
 use Rattle.knowledge.specs.Knowledge.{ClassRow, Marked}
 use Rattle.knowledge.specs.Sweeps.{rightPart, rightClass}
-use Rattle.knowledge.proofs.ByKind.{makes-cell, makes-ends}
-use Rattle.theory.proofs.MarkRows.{set-kept, set-on}
+use Rattle.knowledge.proofs.ByKind.{makes-cell, makes-ends, pair-kind}
+use Rattle.knowledge.proofs.Grow.{set-bits}
+use Rattle.theory.proofs.MarkRows.{no-mark, set-kept, set-on, set-cases}
 use Rattle.wants.specs.declared.starts.Pick.{Pick}
 use Rattle.wants.specs.declared.starts.Pick.the-variants as pick
 use Rattle.wants.specs.Starts.{EndsAt, BareAt, BareTo, LacksKey, KeyTold, Keyed, FreeSeen, DueTold, Due, Joint}
@@ -39,6 +42,10 @@ bare-kind (suc zero) f s h (x, p) n = elim p [ ]
 bare-kind (suc (suc zero)) f s h (x, p) n = n f s refl
 bare-kind (suc (suc (suc k))) f s h (x, p) n = omega arith
 
+makes-part : {k : Cell} {a b : ℕ} → Makes k a b → Part k a
+makes-part (Makes.ones g) = in-arg
+makes-part Makes.twos = in-left
+
 module _ (K F S : List ℕ) (rep seens builts : List ℕ) (c : ℕ) where
   pub bare-open : getD K c 0 < 3 → BareAt (tableAt K F S) rep seens builts c → ⊥
   bare-open h w = bare-kind (getD K c 0) (getD F c 0) (getD S c 0) h (w .part) (w .shut)
@@ -49,15 +56,49 @@ module _ (K F S : List ℕ) (rep seens builts : List ℕ) (c : ℕ) where
       let (l, r) = makes-ends c m in
       w .lacks i j m (subst (λ d. On builts (classAt rep d)) l (subst (On builts) (e .left) x)) (subst (λ d. On builts (classAt rep d)) r (subst (On builts) (e .right) y))
 
-module _ {T : Table} {rep seens builts : List ℕ} where
-  pub bare-none : {m : List ℕ} → length m ≡ 129 → BareTo T rep seens builts m 0
-  bare-none l = record { long = l; bares = λ c h. absurd (omega arith) }
+  -- Of such a kind, seen and without one of its parts it is bare.
+  pub bare-here : (a b : ℕ) → EndsAt (tableAt K F S) rep c a b → 3 ≤ getD K c 0 → On seens c → (On builts a → On builts b → ⊥) → BareAt (tableAt K F S) rep seens builts c
+  bare-here a b e h o ne =
+      let (i, j, m) = makes-cell (getD K c 0) (getD F c 0) (getD S c 0) (omega arith) in
+      record {
+        whole = o;
+        shut = λ l r q. omega (arith, pair-kind (getD K c 0) (getD F c 0) (getD S c 0) q);
+        part = (i, makes-part m);
+        lacks = λ x y m′ ox oy. (let (l, r) = makes-ends c m′ in
+            ne (subst (On builts) (sym (e .left)) (subst (λ d. On builts (classAt rep d)) (sym l) ox)) (subst (On builts) (sym (e .right)) (subst (λ d. On builts (classAt rep d)) (sym r) oy)));
+      }
 
-  pub bare-mark : {r : List ℕ} {c : ℕ} → c ≤ 128 → BareTo T rep seens builts r c → BareTo T rep seens builts (set r c 1) (c + 1)
-  bare-mark {r} {c} h w = record { long = length-set r c 1 ∙ w .long; bares = more-on (BareAt T rep seens builts) r c (omega (arith, w .long)) (w .bares) }
+module _ {T : Table} {rep seens builts : List ℕ} where
+  pub bare-none : BareTo T rep seens builts (replicate 129 0) 0
+  bare-none =
+      record {
+        long = length-replicate {A = ℕ} 129 0;
+        bits = λ c. omega (arith, zeros 129 c);
+        only = λ c o. absurd (no-mark 129 c o);
+        bares = λ c h. absurd (omega arith);
+      }
+
+  pub bare-mark : {r : List ℕ} {c : ℕ} → c ≤ 128 → BareTo T rep seens builts r c → BareAt T rep seens builts c → BareTo T rep seens builts (set r c 1) (c + 1)
+  bare-mark {r} {c} h w b =
+      let k : c < length r = omega (arith, w .long) in
+      record {
+        long = length-set r c 1 ∙ w .long;
+        bits = λ d. set-bits r c d k (w .bits d);
+        only = λ d o. elim (set-cases r c d o) [
+          | inl e ↦ (omega arith, subst (BareAt T rep seens builts) (sym e) b)
+          | inr i ↦ (let (l, q) = w .only d i in (omega arith, q))
+        ];
+        bares = more-on (BareAt T rep seens builts) r c k (w .bares);
+      }
 
   pub bare-skip : {r : List ℕ} {c : ℕ} → BareTo T rep seens builts r c → (BareAt T rep seens builts c → ⊥) → BareTo T rep seens builts r (c + 1)
-  bare-skip {r} {c} w n = record { long = w .long; bares = more-off (BareAt T rep seens builts) r c n (w .bares) }
+  bare-skip {r} {c} w n =
+      record {
+        long = w .long;
+        bits = w .bits;
+        only = λ d o. (let (l, q) = w .only d o in (omega arith, q));
+        bares = more-off (BareAt T rep seens builts) r c n (w .bares);
+      }
 
 module _ {n : ℕ} {K F S rep : List ℕ} (w : Rows n K F S) (row : ClassRow n rep) where
   pub bare-rows : {ev : Run} {p : ℕ} {seens builts r : List ℕ} → Swept (tableAt K F S) (classAt rep) ev p (On seens) (On builts) → BareTo (tableAt K F S) rep seens builts r n →

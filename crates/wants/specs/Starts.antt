@@ -31,9 +31,11 @@ pub record BareAt (T : Table) (rep seens builts : List ℕ) (c : ℕ) : Type 0 w
   pub part : (x : ℕ) × Part (T c) x
   pub lacks : (a b : ℕ) → Makes (T c) a b → On builts (classAt rep a) → On builts (classAt rep b) → ⊥
 
--- The row r has the bare cells below `upto`.
+-- The row r, each byte 0 or 1, marks exactly the bare cells below `upto`.
 pub record BareTo (T : Table) (rep seens builts r : List ℕ) (upto : ℕ) : Type 0 where
   pub long : length r ≡ 129
+  pub bits : (c : ℕ) → getD r c 0 ≤ 1
+  pub only : (c : ℕ) → On r c → (c < upto) × BareAt T rep seens builts c
   pub bares : (c : ℕ) → c < upto → BareAt T rep seens builts c → On r c
 
 -- The cell c is a seal that is seen, and its key is not built.

@@ -75,7 +75,7 @@ pub fn over<'a>(
 }
 
 // The marks of both rows.
-pub fn joint(a: [u8; 129], b: [u8; 129]) -> [u8; 129]
+fn joint(a: [u8; 129], b: [u8; 129]) -> [u8; 129]
     ensures { λ r. ⌜ Joint a b r 129 ⌝ }
 {
     let mut m = a;

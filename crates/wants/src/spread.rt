@@ -15,7 +15,7 @@ pub struct Swept {
 }
 
 // Is the class d, which has the byte `flag` in the row `only`, to be marked as part of c?
-pub fn reaches<'a>(marks: &'a [u8; 129], only: &'a [u8; 129], flag: u8, c: usize, d: usize) -> bool
+fn reaches<'a>(marks: &'a [u8; 129], only: &'a [u8; 129], flag: u8, c: usize, d: usize) -> bool
     requires { ⌜ c ≤ 128 ⌝ }
     requires { ⌜ d ≤ 128 ⌝ }
     ensures { λ r. ⌜ Decides r (Reaches (now (marks .entry)) (now (only .entry)) flag c d) ⌝ }
@@ -30,7 +30,7 @@ pub fn reaches<'a>(marks: &'a [u8; 129], only: &'a [u8; 129], flag: u8, c: usize
 }
 
 // One sweep downwards: the parts of marked cells are marked, as far as they have `flag` in `only`.
-pub fn lower<'a>(
+fn lower<'a>(
     kind: &'a [u8; 128],
     first: &'a [u8; 128],
     second: &'a [u8; 128],
@@ -95,7 +95,7 @@ pub fn lowered<'a>(
 }
 
 // Is c to be marked, as a cell with a marked part?
-pub fn raises<'a>(
+fn raises<'a>(
     kind: &'a [u8; 128],
     first: &'a [u8; 128],
     second: &'a [u8; 128],
@@ -125,7 +125,7 @@ pub fn raises<'a>(
 }
 
 // One sweep upwards: cells with a marked part are marked.
-pub fn raise<'a>(
+fn raise<'a>(
     kind: &'a [u8; 128],
     first: &'a [u8; 128],
     second: &'a [u8; 128],

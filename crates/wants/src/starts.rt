@@ -4,7 +4,6 @@ use knowledge::cell;
 use knowledge::class_of;
 use knowledge::part_classes;
 ghost use mathlib.Core.Path.{_≡_};
-ghost use mathlib.Core.Bool.{false};
 ghost use Prim.Native.Nat.{_≤_, _<_};
 ghost use Rattle.model.specs.Stored.{tableAt};
 ghost use Rattle.theory.specs.Cells.{Rows, EventRows};
@@ -35,8 +34,8 @@ pub fn ends<'a>(
     part_classes(kind[c], first[c], second[c], rep, c)
 }
 
-// May c be bare? If not, it is not.
-pub fn is_bare<'a>(
+// Is c bare?
+fn is_bare<'a>(
     kind: &'a [u8; 128],
     first: &'a [u8; 128],
     second: &'a [u8; 128],
@@ -49,7 +48,7 @@ pub fn is_bare<'a>(
     requires { ⌜ Rows n (now kind) (now first) (now second) ⌝ }
     requires { ⌜ ClassRow n (now rep) ⌝ }
     requires { ⌜ c < n ⌝ }
-    ensures { λ r. ⌜ (r ≡ false → BareAt (tableAt (now (kind .entry)) (now (first .entry)) (now (second .entry))) (now (rep .entry)) (now (seen .entry)) (now (built .entry)) c → ⊥) ⌝ }
+    ensures { λ r. ⌜ Decides r (BareAt (tableAt (now (kind .entry)) (now (first .entry)) (now (second .entry))) (now (rep .entry)) (now (seen .entry)) (now (built .entry)) c) ⌝ }
 {
     if seen[c] != 1 {
         return false;
@@ -92,7 +91,7 @@ pub fn bares<'a>(
 }
 
 // The class of the key of c, if c is a seal that is seen and its key is not built.
-pub fn key_at<'a>(
+fn key_at<'a>(
     kind: &'a [u8; 128],
     first: &'a [u8; 128],
     second: &'a [u8; 128],
@@ -182,7 +181,7 @@ pub fn free_seen<'a>(
 }
 
 // The class of the cell x of an event, if it is to be made and marked in `hold`.
-pub fn due_at<'a>(n: usize, rep: &'a [u8; 129], hold: &'a [u8; 129], kind: u8, x: u8) -> Pick
+fn due_at<'a>(n: usize, rep: &'a [u8; 129], hold: &'a [u8; 129], kind: u8, x: u8) -> Pick
     requires { ⌜ ClassRow n (now rep) ⌝ }
     requires { ⌜ x ≤ 128 ⌝ }
     ensures { λ r. ⌜ DueTold (now (rep .entry)) (now (hold .entry)) kind x r ⌝ }

@@ -1,12 +1,11 @@
 -- The loop's invariant: no cell before the counter is a variable, so each of their records has four bytes.
-use mathlib.Core.Path.{_≡_, subst}
+use mathlib.Core.Path.{_≡_, refl, subst}
 use Prim.Native.Nat.{ℕ, _≤_, _<_, _-_}
 use native.Mathlib.Omega.{arith}
 use native.Mathlib.Decide.{ℕ-discrete}
 use borrow.Author.Needs.{needs}
 use denote.Ref.{now}
 use lib.ListN.{getD}
-use Rattle.casefile.proofs.VariableLaws.{variable-at, variable-none}
 use Rattle.casefile.proofs.first_variable.Statement.{statement}
 use Rattle.casefile.proofs.first_variable.Tie as tie
 
@@ -28,7 +27,7 @@ mul-t8 c = omega arith
 returns : tie.Need-returns Inv-loop μ-loop
 returns c =
     let l = c .before .before .before in
-    λ cells e z. variable-at (now (l .before .args .kind)) cells e (l .loop .i) (c .if1 .taken) (l .loop .inv .1)
+    (l .loop .i, refl, search needs, c .if1 .taken, l .loop .inv .1)
 
 add-i : tie.Need-add-i Inv-loop μ-loop
 add-i c = omega arith
@@ -50,7 +49,7 @@ returns-2 : tie.Need-returns-2 Inv-loop μ-loop
 returns-2 c =
     let l = c .before in
     let s : l .loop .i ≡ l .before .args .n = omega arith in
-    λ cells e z. variable-none (now (l .before .args .kind)) cells e (l .before .args .n) z (λ j h. l .loop .inv .1 j (omega arith))
+    λ j h. l .loop .inv .1 j (omega arith)
 
 pub first-variable-spec : {M : Type 1} → statement M
 first-variable-spec =

@@ -76,7 +76,7 @@ returns c =
     let file = now (r .before .before .args .file) in
     let at = r .read-cells .result .at in
     let t = r .read-cells .result .table in
-    c .refused .ensures ∙ sym (ap caseOf (subst (λ s. cellsRead file s at t) (c .before .before .stop .given .1) (r .read-cells .ensures)))
+    c .refused .ensures ∙ sym (ap caseOf (subst (λ s. cellsRead file s at t) (c .before .before .stop .given .1) (r .read-cells .ensures) .0))
 
 returns-2 : tie.Need-returns-2
 returns-2 c =

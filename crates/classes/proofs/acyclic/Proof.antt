@@ -4,7 +4,7 @@ use mathlib.Core.Path.{_≡_}
 use mathlib.Core.Bool.{false}
 use Rattle.model.specs.Stored.{tableAt}
 use Rattle.classes.specs.Peel.{classTable, Peeled, undone}
-use Rattle.classes.proofs.PeelLaws.{peeled-none, peeled-finite, peeled-round}
+use Rattle.classes.proofs.PeelLaws.{peeled-none, peeled-finite, peeled-round, peeled-endless}
 use Rattle.classes.proofs.acyclic.Statement.{statement}
 use Rattle.classes.proofs.acyclic.Tie as tie
 
@@ -31,8 +31,10 @@ returns c =
     let a = s .args in
     let quiet : q .peel .result .changed ≡ false = not-true _ (i .if1 .taken) in (
       λ e. peeled-finite (s .pre .0) (s .pre .1) (q .peel .result .done) (q .peel .ensures .peeled) (c .all-done .ensures .yes e),
-      λ e. (let (x, h, ne) = c .all-done .ensures .no e in
-          peeled-round (s .pre .0) (s .pre .1) (q .peel .result .done) (q .peel .ensures .shut quiet) x h ne),
+      λ e. (let (x, h, ne) = c .all-done .ensures .no e in (
+        peeled-round (s .pre .0) (s .pre .1) (q .peel .result .done) (q .peel .ensures .shut quiet) x h ne,
+        peeled-endless (s .pre .0) (s .pre .1) (q .peel .result .done) (q .peel .ensures .shut quiet) x h ne,
+      )),
     )
 
 loop-less : tie.Need-loop-less Inv-loop μ-loop

@@ -39,7 +39,7 @@ returns-2 c =
     let w = t .settle .ensures in
     let good : t .settle .result .ok ≡ true = not-false _ (i .if1 .left) in
     record {
-      no = λ o m mr s e. c .acyclic .ensures .1 o m mr (w .sat good m mr .0 (j .sat m .1 (s, e)));
+      no = λ o m mr s e. c .acyclic .ensures .1 o .0 m mr (w .sat good m mr .0 (j .sat m .1 (s, e)));
       solved = λ o. record { kept = w .kept good; closed = w .closed good; finite = c .acyclic .ensures .0 o };
       sat = λ _ m mr. (λ (s, e). w .sat good m mr .0 (j .sat m .1 (s, e)), λ s. j .sat m .0 (w .sat good m mr .1 s));
       most = λ _. omega (arith, w .most good, j .most);

@@ -38,12 +38,18 @@ returns c =
 enum-known-step : tie.Need-enum-known-step Inv-loop μ-loop
 enum-known-step c = search needs
 
+empty-table-requires-2 : tie.Need-empty-table-requires-2 Inv-loop μ-loop
+empty-table-requires-2 c κs = search needs
+
 returns-2 : tie.Need-returns-2 Inv-loop μ-loop
 returns-2 c =
-    let o = c .before .before .before in
-    let l = o .before in
-    cells-refused (now (l .before .before .before .args .file)) (l .loop .at) (l .loop .t) (l .loop .inv) _
-    (subst (cellSays (drop (l .loop .at) (now (l .before .before .before .args .file))) (l .loop .t .cells)) (c .before .step .given .1) (o .cell-step .ensures))
+    let e = c .before in
+    let o = e .before .before .before in
+    let l = o .before in (
+      cells-refused (now (l .before .before .before .args .file)) (l .loop .at) (l .loop .t) (l .loop .inv) _
+          (subst (cellSays (drop (l .loop .at) (now (l .before .before .before .args .file))) (l .loop .t .cells)) (e .before .step .given .1) (o .cell-step .ensures)),
+      c .empty-table2 .ensures,
+    )
 
 enum-known-step-2 : tie.Need-enum-known-step-2 Inv-loop μ-loop
 enum-known-step-2 c = search needs
@@ -104,6 +110,7 @@ read-cells-spec =
     enum-told
     returns
     enum-known-step
+    empty-table-requires-2
     returns-2
     enum-known-step-2
     with-cell-requires

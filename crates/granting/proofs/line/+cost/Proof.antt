@@ -10,7 +10,7 @@ use Rattle.granting.proofs.line.cost.Reads as cost
 use Rattle.granting.proofs.line.cost.Kinds as cost-kinds
 use Rattle.granting.proofs.line.+cost.Lts-cost as cost-lts
 use Rattle.granting.proofs.line.live_row.Reads as live-row-reads
-use Rattle.wants.proofs.starts.ends.Reads as ends-reads
+use Rattle.wants.proofs.ends.Reads as ends-reads
 use Rattle.granting.proofs.line.+cost.{statement}
 use Rattle.granting.proofs.line.+cost.Tie.{close}
 

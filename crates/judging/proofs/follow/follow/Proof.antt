@@ -36,7 +36,7 @@ returns-2 c =
     let w = t .settle .ensures in
     let good : t .settle .result .ok ≡ true = not-false _ (i .if1 .left) in
     record {
-      no = λ o m mr l. c .acyclic .ensures .1 o m mr (w .sat good m mr .0 (g .sat m mr .0 l));
+      no = λ o m mr l. c .acyclic .ensures .1 o .0 m mr (w .sat good m mr .0 (g .sat m mr .0 l));
       solved = λ o. record { kept = w .kept good; closed = w .closed good; finite = c .acyclic .ensures .0 o };
       sat = λ _ m mr. (λ l. w .sat good m mr .0 (g .sat m mr .0 l), λ s. g .sat m mr .1 (w .sat good m mr .1 s));
     }

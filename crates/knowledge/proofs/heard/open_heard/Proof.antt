@@ -18,10 +18,10 @@ open-known-requires c κs =
 
 returns : tie.Need-returns
 returns c =
-    let o = c .before .before in
+    let o = c .before in
     let r = o .before .before .before .before in
     let a = r .before .args in
-    heard-opened (r .before .pre .0) (r .start .ensures) (a .count) (a .asks .now) (a .aims .now) (o .before .before .learn-all .ensures) (o .open-known .ensures)
+    heard-opened (r .before .pre .0) (r .start .ensures) (a .count) (a .asks .now) (a .aims .now) (r .before .pre .1 .few) (o .before .before .learn-all .ensures) (o .open-known .ensures)
 
 pub open-heard-spec : {M : Type 1} → statement M
 open-heard-spec =

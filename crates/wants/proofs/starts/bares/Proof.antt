@@ -1,4 +1,4 @@
--- The invariant: the row has the bare cells below c.
+-- The invariant: the row marks exactly the bare cells below c.
 use mathlib.Core.Logic.{⊎-elim}
 use mathlib.Core.Path.{subst}
 use Prim.Native.Nat.{ℕ, _≤_, _-_}
@@ -17,7 +17,7 @@ abbrev μ-loop : tie.MeasureT-loop
 μ-loop kind first second n rep seen built m₀ c₀ m c = n - c
 
 loop-holds : tie.Need-loop-holds Inv-loop μ-loop
-loop-holds c = (bare-none (search needs), omega arith)
+loop-holds c = (bare-none, omega arith)
 
 is-bare-requires : tie.Need-is-bare-requires Inv-loop μ-loop
 is-bare-requires c κs = search needs
@@ -42,8 +42,8 @@ loop-again c =
     let l = c3 in
     let h : l .loop .c ≤ 128 = omega (arith, c4 .pre .0 .few) in (
       ⊎-elim
-          (λ x. rw (x .1) (bare-mark h (l .loop .inv .0)))
-          (λ x. rw (x .1) (bare-skip (l .loop .inv .0) (c .before .is-bare .ensures (x .0 .left))))
+          (λ x. rw (x .1) (bare-mark h (l .loop .inv .0) (c .before .is-bare .ensures .yes (x .0 .taken))))
+          (λ x. rw (x .1) (bare-skip (l .loop .inv .0) (c .before .is-bare .ensures .no (x .0 .left))))
           (c .if1 .came),
       omega arith,
     )

@@ -1,9 +1,11 @@
--- Where the answer is no, c is not seen, is of a kind that is never bare, or has both parts built.
-use mathlib.Core.Bool.{true≢false}
+-- Where the answer is no, c is not seen, is of a kind that is never bare, or has both parts built; else a part is missing.
 use native.Mathlib.Omega.{arith}
-use borrow.Author.Tests.{eqb-true, not-false}
+use borrow.Author.Tests.{eq-eqb, eqb-true, not-false, not-true}
 use borrow.Author.Needs.{needs}
-use Rattle.wants.proofs.StartLaws.{bare-open, bare-made}
+use mathlib.Core.Path.{sym, _∙_}
+use mathlib.Core.Bool.{true≢false}
+use Rattle.knowledge.proofs.ByKind.{decides-no, decides-yes}
+use Rattle.wants.proofs.StartLaws.{bare-open, bare-made, bare-here}
 use Rattle.wants.proofs.starts.is_bare.Statement.{statement}
 use Rattle.wants.proofs.starts.is_bare.Tie as tie
 
@@ -11,15 +13,16 @@ element-copy-out-if1 : tie.Need-element-copy-out-if1
 element-copy-out-if1 c = search needs
 
 returns : tie.Need-returns
-returns c e w = c .if1 .taken (w .whole)
+returns c = decides-no (λ w. c .if1 .taken (w .whole))
 
 element-copy-out-if2 : tie.Need-element-copy-out-if2
 element-copy-out-if2 c = search needs
 
 returns-2 : tie.Need-returns-2
-returns-2 c e =
+returns-2 c =
     let c4 = c .before .before .before .before in
-    let a = c4 .args in bare-open (a .kind .now) (a .first .now) (a .second .now) (a .rep .now) (a .seen .now) (a .built .now) (a .c) (c .if2 .taken)
+    let a = c4 .args in
+    decides-no (bare-open (a .kind .now) (a .first .now) (a .second .now) (a .rep .now) (a .seen .now) (a .built .now) (a .c) (c .if2 .taken))
 
 ends-requires : tie.Need-ends-requires
 ends-requires c κs = search needs
@@ -28,17 +31,25 @@ element-copy-out-if3 : tie.Need-element-copy-out-if3
 element-copy-out-if3 c = search needs
 
 returns-3 : tie.Need-returns-3
-returns-3 c e = absurd (true≢false e)
+returns-3 c =
+    let e = c .before .before in
+    let a = e .before .before .before .before .before .args in
+    decides-yes (bare-here (a .kind .now) (a .first .now) (a .second .now) (a .rep .now) (a .seen .now) (a .built .now) (a .c) (e .ends .result .left)
+    (e .ends .result .right) (e .ends .ensures) (omega arith) (e .before .before .before .if1 .left) (λ o _. c .if3 .taken o))
 
 element-copy-out-result : tie.Need-element-copy-out-result
 element-copy-out-result c = search needs
 
 returns-4 : tie.Need-returns-4
-returns-4 c e =
-    let c3 = c .before .before .before in
-    let c8 = c3 .before .before .before .before .before in
-    let a = c8 .args in bare-made (a .kind .now) (a .first .now) (a .second .now) (a .rep .now) (a .seen .now) (a .built .now) (a .c) (c3 .ends .result .left)
-    (c3 .ends .result .right) (c3 .ends .ensures) (omega arith) (c .before .if3 .left) (eqb-true _ _ (not-false _ e))
+returns-4 c =
+    let e = c .before .before .before in
+    let a = e .before .before .before .before .before .args in
+    record {
+      yes = λ r. bare-here (a .kind .now) (a .first .now) (a .second .now) (a .rep .now) (a .seen .now) (a .built .now) (a .c) (e .ends .result .left)
+          (e .ends .result .right) (e .ends .ensures) (omega arith) (e .before .before .before .if1 .left) (λ _ o. true≢false (sym (eq-eqb _ 1 o) ∙ not-true _ r));
+      no = λ r. bare-made (a .kind .now) (a .first .now) (a .second .now) (a .rep .now) (a .seen .now) (a .built .now) (a .c) (e .ends .result .left)
+          (e .ends .result .right) (e .ends .ensures) (omega arith) (c .before .if3 .left) (eqb-true _ _ (not-false _ r));
+    }
 
 pub is-bare-spec : {M : Type 1} → statement M
 is-bare-spec =

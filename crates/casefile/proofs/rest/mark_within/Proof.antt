@@ -8,8 +8,8 @@ use denote.Ref.{now}
 use lib.ListN.{length-set}
 use Rattle.model.specs.Stored.{tableAt}
 use Rattle.casefile.proofs.WithinLaws.{Descent, descent-start, descent-marked, descent-passed, within-marked}
-use Rattle.casefile.proofs.events.mark_within.Statement.{statement}
-use Rattle.casefile.proofs.events.mark_within.Tie as tie
+use Rattle.casefile.proofs.rest.mark_within.Statement.{statement}
+use Rattle.casefile.proofs.rest.mark_within.Tie as tie
 
 abbrev Inv-loop : tie.InvT-loop
 Inv-loop kind first second c m₀ i₀ m i = Descent (tableAt kind first second) c m₀ i m

@@ -1,8 +1,8 @@
 -- By the kind: the marks of two parts, of one part or of none.
 use borrow.Author.Needs.{needs}
 use Rattle.casefile.proofs.WithinLaws.{part-first, part-second, mark-none, mark-one, mark-two}
-use Rattle.casefile.proofs.events.mark_parts.Statement.{statement}
-use Rattle.casefile.proofs.events.mark_parts.Tie as tie
+use Rattle.casefile.proofs.rest.mark_parts.Statement.{statement}
+use Rattle.casefile.proofs.rest.mark_parts.Tie as tie
 
 returns : tie.Need-returns
 returns c = let a = c .before .args in mark-none (a .kind) (a .first) (a .second) (a .marks) (search needs) (c .if1 .taken)

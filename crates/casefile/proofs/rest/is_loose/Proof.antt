@@ -8,8 +8,8 @@ use denote.Ref.{now}
 use lib.ListN.{getD}
 use Rattle.theory.specs.Cells.{On}
 use Rattle.casefile.proofs.WithinLaws.{loose-at-true, loose-at-false}
-use Rattle.casefile.proofs.events.is_loose.Statement.{statement}
-use Rattle.casefile.proofs.events.is_loose.Tie as tie
+use Rattle.casefile.proofs.rest.is_loose.Statement.{statement}
+use Rattle.casefile.proofs.rest.is_loose.Tie as tie
 
 abbrev Inv-loop : tie.InvT-loop
 Inv-loop kind held made v₀ v = (v ≤ 128) × ((u : ℕ) → u < v → getD kind u 0 ≡ 1 → On held u → On made u)

@@ -9,8 +9,8 @@ use lib.ListN.{length, drop, length-drop}
 use Rattle.model.specs.Case.{Cell}
 use Rattle.casefile.specs.Events.{eventSays, looseSays}
 use Rattle.casefile.proofs.EventLoop.{Context, context, EventsSoFar, events-start, events-refused, events-end, events-make, events-loose, events-learn}
-use Rattle.casefile.proofs.events.read_events.Statement.{statement}
-use Rattle.casefile.proofs.events.read_events.Tie as tie
+use Rattle.casefile.proofs.rest.read_events.Statement.{statement}
+use Rattle.casefile.proofs.rest.read_events.Tie as tie
 
 abbrev Inv-loop : tie.InvT-loop
 Inv-loop rest base t e₀ made₀ at₀ e made at =

@@ -3,8 +3,8 @@ use mathlib.Core.Path.{refl}
 use borrow.Author.Tests.{eq-eqb, ne-eqb}
 use Rattle.model.proofs.Pick.{yes, no, into}
 use Rattle.casefile.specs.Events.{looseAt}
-use Rattle.casefile.proofs.events.loose_at.Statement.{statement}
-use Rattle.casefile.proofs.events.loose_at.Tie as tie
+use Rattle.casefile.proofs.rest.loose_at.Statement.{statement}
+use Rattle.casefile.proofs.rest.loose_at.Tie as tie
 
 returns : tie.Need-returns
 unfolding looseAt

@@ -3,8 +3,8 @@ use mathlib.Core.Path.{refl}
 use borrow.Author.Tests.{lt-ltb, le-ltb}
 use Rattle.model.proofs.Pick.{yes, no}
 use borrow.Author.Needs.{needs}
-use Rattle.casefile.proofs.events.below_cells.Statement.{statement}
-use Rattle.casefile.proofs.events.below_cells.Tie as tie
+use Rattle.casefile.proofs.rest.below_cells.Statement.{statement}
+use Rattle.casefile.proofs.rest.below_cells.Tie as tie
 
 enum-known-step : tie.Need-enum-known-step
 enum-known-step c = search needs

@@ -6,8 +6,8 @@ use Rattle.casefile.proofs.TestLaws.{Means, means}
 use Rattle.casefile.proofs.CellLaws.{fault-says}
 use Rattle.casefile.proofs.EventLaws.{says-late}
 use borrow.Author.Needs.{needs}
-use Rattle.casefile.proofs.events.event_step.Statement.{statement}
-use Rattle.casefile.proofs.events.event_step.Tie as tie
+use Rattle.casefile.proofs.rest.event_step.Statement.{statement}
+use Rattle.casefile.proofs.rest.event_step.Tie as tie
 
 mark-at-requires : tie.Need-mark-at-requires
 mark-at-requires c κs = search needs

@@ -6,8 +6,8 @@ use lib.ListN.{length, drop, length-drop}
 use borrow.Author.Tests.{lt-ltb, le-ltb}
 use Rattle.model.proofs.Pick.{yes, no}
 use borrow.Author.Needs.{needs}
-use Rattle.casefile.proofs.events.ended.Statement.{statement}
-use Rattle.casefile.proofs.events.ended.Tie as tie
+use Rattle.casefile.proofs.rest.ended.Statement.{statement}
+use Rattle.casefile.proofs.rest.ended.Tie as tie
 
 sub-if1 : tie.Need-sub-if1
 sub-if1 c = search needs

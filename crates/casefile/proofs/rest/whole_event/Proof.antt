@@ -6,8 +6,8 @@ use lib.ListN.{drop, length-drop}
 use Rattle.casefile.specs.Events.{eventSays, belowCells}
 use Rattle.casefile.proofs.EventLaws.{says-end, says-many, event-room, says-short, says-event}
 use borrow.Author.Needs.{needs}
-use Rattle.casefile.proofs.events.whole_event.Statement.{statement}
-use Rattle.casefile.proofs.events.whole_event.Tie as tie
+use Rattle.casefile.proofs.rest.whole_event.Statement.{statement}
+use Rattle.casefile.proofs.rest.whole_event.Tie as tie
 
 is-end-requires : tie.Need-is-end-requires
 is-end-requires c κs = search needs

@@ -1,7 +1,7 @@
 -- MK and LN have their event; EN ends.
 use borrow.Author.Needs.{needs}
-use Rattle.casefile.proofs.events.event_of.Statement.{statement}
-use Rattle.casefile.proofs.events.event_of.Tie as tie
+use Rattle.casefile.proofs.rest.event_of.Statement.{statement}
+use Rattle.casefile.proofs.rest.event_of.Tie as tie
 
 enum-known-r : tie.Need-enum-known-r
 enum-known-r c = search needs
