@@ -134,6 +134,16 @@ fn ask_list(list: &[u8], file: &[u8]) {
     }
 }
 
+// p: the lines of the run program
+fn ask_lines(file: &[u8]) {
+    let mut lines = [0u8; 1437];
+    let n = printing::write_reply(file, &mut lines);
+    if n > lines.len() {
+        return;
+    }
+    print(&lines[..n]);
+}
+
 // Asks the question of the head's letter.
 pub fn ask(head: &[u8], file: &[u8]) {
     let mut out = [0u8; 1024];
@@ -155,6 +165,7 @@ pub fn ask(head: &[u8], file: &[u8]) {
                 ask_list(&head[2..], file);
             }
         }
+        b'p' => ask_lines(file),
         _ => print(b"no such question\n"),
     }
 }

@@ -23,7 +23,6 @@ const HELP: &str = "\
 vectors FOLDER: writes FOLDER/stdin, a row of cases, and FOLDER/stdout, the lines that they must print.
 
   --check    write nothing; say where the two files differ from what would be written
-  --print    with the section of printed replies, letter p
 
 A case is the question's letter, what it asks besides, two bytes for the file's length (high byte first) and the file:
   f  nothing                                accepted CELLS EVENTS FIRST-VARIABLE-OR-DASH
@@ -40,16 +39,14 @@ Exit status: 0 written, or as stored; 1 something differs, or a reply is in doub
 
 struct Options {
     check: bool,
-    print: bool,
     folder: PathBuf,
 }
 
 fn options() -> Option<Options> {
     let (flags, rest): (Vec<String>, Vec<String>) = std::env::args().skip(1).partition(|word| word.starts_with("--"));
-    let known = flags.iter().all(|flag| flag == "--check" || flag == "--print");
-    let has = |name: &str| flags.iter().any(|flag| flag == name);
+    let known = flags.iter().all(|flag| flag == "--check");
     match &rest[..] {
-        [folder] if known => Some(Options { check: has("--check"), print: has("--print"), folder: folder.into() }),
+        [folder] if known => Some(Options { check: !flags.is_empty(), folder: folder.into() }),
         _ => None,
     }
 }
@@ -77,7 +74,7 @@ fn main() -> ExitCode {
 
 /// Writes or checks both files; what was done, in a line.
 fn work(options: &Options) -> Result<String, String> {
-    let sections = sections::sections(options.print)?;
+    let sections = sections::sections()?;
     let rows = rows(&sections)?;
     let stdin: Vec<u8> = rows.iter().flat_map(|row| row.case.clone()).collect();
     let stdout: String = rows.iter().map(|row| row.lines.clone() + "\n").collect::<String>() + &format!("{} cases\n", rows.len());

@@ -16,20 +16,17 @@ pub const WIDE: usize = 1000;
 /// A name and its cases.
 pub type Section = (&'static str, Vec<Case>);
 
-/// All sections in their order; that of printed replies only where it is wanted. An error if the searches differ on a run.
-pub fn sections(print: bool) -> Result<Vec<Section>, String> {
-    let mut found = vec![
+/// All sections in their order. An error if the searches differ on a run.
+pub fn sections() -> Result<Vec<Section>, String> {
+    Ok(vec![
         ("files", files(&mut Chance::of(1, 0))),
         ("marks", marks(&mut Chance::of(1, 1))),
         ("reduce", reduce(&mut Chance::of(1, 2))),
         ("equate", equate(&mut Chance::of(1, 3))),
         ("run", run(&mut Chance::of(1, 4))?),
         ("list", list(&mut Chance::of(1, 5))?),
-    ];
-    if print {
-        found.push(("print", printed()));
-    }
-    Ok(found)
+        ("print", printed()),
+    ])
 }
 
 /// The files in their order, each once.
