@@ -28,7 +28,7 @@ returns-2 c =
     let q = told .before .before in
     let a = q .before .before .before .args in
     let w = case-accepted (a .file .now) (q .read-case .result) (q .read-case .ensures) (told .enum-told .given .1) in
-    judged-size w (a .list .now) (c .if1 .taken)
+    judged-size w (a .list .now) (λ e. omega (arith, c .if1 .taken))
 
 first-bad-requires : tie.Need-first-bad-requires
 first-bad-requires c κs =
