@@ -9,17 +9,17 @@ use lib.ListN.{length, getD, drop, List·getD-append}
 use Rattle.model.specs.Case.{Table}
 use Rattle.model.specs.Stored.{cellAt, tableAt}
 use Rattle.model.specs.Replies.{laid}
-use Rattle.printing.specs.Lines.{decimal, value, valueLine, lineOf, valueLines}
+use Rattle.printing.specs.Lines.{told, feed, value, valueLine, lineOf, valueLines}
 use Rattle.printing.specs.Put.{Put, kindLine, kindLines}
 use Rattle.printing.proofs.PutLaws.{put-join, put-none}
 
 module _ {before after : List ℕ} {at r : ℕ} where
   -- ---- an entry
 
-  pub put-own : (x : ℕ) → x ≡ 255 → Put (111 ∷ 119 ∷ 110 ∷ []) before at after r → Put (value x) before at after r
+  pub put-own : (x : ℕ) → x ≡ 255 → Put (32 ∷ 61 ∷ 32 ∷ 111 ∷ 119 ∷ 110 ∷ 10 ∷ []) before at after r → Put (value x) before at after r
   put-own x e p = rw (eq-eqb x 255 e) p
 
-  pub put-cell : (x : ℕ) → (x ≡ 255 → ⊥) → Put (decimal x) before at after r → Put (value x) before at after r
+  pub put-cell : (x : ℕ) → (x ≡ 255 → ⊥) → Put (told (32 ∷ 61 ∷ 32 ∷ []) x ++ feed) before at after r → Put (value x) before at after r
   put-cell x e p = rw (ne-eqb x 255 e) p
 
   -- ---- a cell by its kind

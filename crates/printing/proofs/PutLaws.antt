@@ -67,24 +67,17 @@ decimal-three (suc (suc n)) h k =
     let m = suc (suc n) in
     digits-high m m (omega arith) ∙ ap (λ l. l ++ ((48 + m % 10) ∷ [])) (digits-high (suc n) (m / 10) (omega arith) ∙ ap (λ l. l ++ ((48 + m / 10 % 10) ∷ [])) (digits-low n (m / 10 / 10) (omega arith)))
 
--- ---- a number of one, two or three digits, as it is stored
+-- ---- a number of one, two or three digits
 
-module _ (before : List ℕ) (at n : ℕ) (room : at + 3 ≤ length before) where
-  told : (text after : List ℕ) (r : ℕ) → decimal n ≡ text → after ≡ sets before at text → r ≡ at + length text → length text ≤ 3 → Put (decimal n) before at after r × (r ≤ at + 3)
-  told text after r e b i l =
-      let z : length (decimal n) ≡ length text = ap length e in
-      (record { bytes = b ∙ ap (sets before at) (sym e); end = omega arith; room = omega arith }, omega arith)
+module _ {before after : List ℕ} {at r : ℕ} (n : ℕ) where
+  put-as : (text : List ℕ) → decimal n ≡ text → length text ≤ 3 → Put text before at after r → Put (decimal n) before at after r × (r ≤ at + 3)
+  put-as text e l p = let i = p .end in (subst (λ t. Put t before at after r) (sym e) p, omega arith)
 
-  pub put-one : (d : ℕ) → n < 10 → d ≡ 48 + n → Put (decimal n) before at (set before at d) (at + 1) × (at + 1 ≤ at + 3)
-  put-one d h i = told (d ∷ []) (set before at d) (at + 1) (decimal-one n h ∙ ap (λ d. d ∷ []) (sym i)) refl refl (omega arith)
+  pub put-one : n < 10 → Put ((48 + n) ∷ []) before at after r → Put (decimal n) before at after r × (r ≤ at + 3)
+  put-one h = put-as ((48 + n) ∷ []) (decimal-one n h) (omega arith)
 
-  pub put-two : (d e : ℕ) → 10 ≤ n → n < 100 → d ≡ 48 + n / 10 → e ≡ 48 + n % 10 → Put (decimal n) before at (set (set before at d) (at + 1) e) (at + 2) × (at + 2 ≤ at + 3)
-  put-two d e l h i j =
-      told (d ∷ e ∷ []) (set (set before at d) (at + 1) e) (at + 2) (decimal-two n l h ∙ (cc (i, j))) (ap (λ k. set (set before at d) k e) (add-one at)) refl (omega arith)
+  pub put-two : 10 ≤ n → n < 100 → Put ((48 + n / 10) ∷ (48 + n % 10) ∷ []) before at after r → Put (decimal n) before at after r × (r ≤ at + 3)
+  put-two l h = put-as ((48 + n / 10) ∷ (48 + n % 10) ∷ []) (decimal-two n l h) (omega arith)
 
-  pub put-three : (d e f : ℕ) → 100 ≤ n → n < 1000 → d ≡ 48 + n / 10 / 10 → e ≡ 48 + n / 10 % 10 → f ≡ 48 + n % 10 →
-      Put (decimal n) before at (set (set (set before at d) (at + 1) e) (at + 2) f) (at + 3) × (at + 3 ≤ at + 3)
-  put-three d e f l h i j k =
-      let z : at + 2 ≡ suc (suc at) = omega arith in
-      told (d ∷ e ∷ f ∷ []) (set (set (set before at d) (at + 1) e) (at + 2) f) (at + 3) (decimal-three n l h ∙ (cc (i, j, k)))
-      (ap (λ x. set (set (set before at d) x e) (at + 2) f) (add-one at) ∙ ap (λ x. set (sets before at (d ∷ e ∷ [])) x f) z) refl (omega arith)
+  pub put-three : 100 ≤ n → n < 1000 → Put ((48 + n / 10 / 10) ∷ (48 + n / 10 % 10) ∷ (48 + n % 10) ∷ []) before at after r → Put (decimal n) before at after r × (r ≤ at + 3)
+  put-three l h = put-as ((48 + n / 10 / 10) ∷ (48 + n / 10 % 10) ∷ (48 + n % 10) ∷ []) (decimal-three n l h) (omega arith)

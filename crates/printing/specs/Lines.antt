@@ -1,5 +1,5 @@
 -- What the run program prints, as bytes (document 01, "Files on both sides of each line"). Each line ends with a line feed.
--- decimal: a number's digits; refusedLine, countsLine, yesLine, noLine, valueLine, valueLines: the lines; Lines: those of a file's reply.
+-- decimal: a number's digits; told: a text with a number; refusedLine, countsLine, yesLine, noLine, valueLine, valueLines: the lines; Lines: those of a file's reply.
 use mathlib.Core.Path.{_≡_}
 use mathlib.Core.Bool.{cond}
 use mathlib.Core.List.{List, [], _∷_, _++_}
@@ -23,13 +23,17 @@ decimal n = digits (suc n) n
 abbrev pub feed : List ℕ
 feed = 10 ∷ []
 
+-- A text with a number behind it.
+abbrev pub told : List ℕ → ℕ → List ℕ
+told text n = text ++ decimal n
+
 -- refused N at P
 abbrev pub refusedLine : ℕ → ℕ → List ℕ
-refusedLine number place = (114 ∷ 101 ∷ 102 ∷ 117 ∷ 115 ∷ 101 ∷ 100 ∷ 32 ∷ []) ++ (decimal number ++ ((32 ∷ 97 ∷ 116 ∷ 32 ∷ []) ++ (decimal place ++ feed)))
+refusedLine number place = told (114 ∷ 101 ∷ 102 ∷ 117 ∷ 115 ∷ 101 ∷ 100 ∷ 32 ∷ []) number ++ (told (32 ∷ 97 ∷ 116 ∷ 32 ∷ []) place ++ feed)
 
 -- cells C events E
 abbrev pub countsLine : ℕ → ℕ → List ℕ
-countsLine cells events = (99 ∷ 101 ∷ 108 ∷ 108 ∷ 115 ∷ 32 ∷ []) ++ (decimal cells ++ ((32 ∷ 101 ∷ 118 ∷ 101 ∷ 110 ∷ 116 ∷ 115 ∷ 32 ∷ []) ++ (decimal events ++ feed)))
+countsLine cells events = told (99 ∷ 101 ∷ 108 ∷ 108 ∷ 115 ∷ 32 ∷ []) cells ++ (told (32 ∷ 101 ∷ 118 ∷ 101 ∷ 110 ∷ 116 ∷ 115 ∷ 32 ∷ []) events ++ feed)
 
 -- run no
 abbrev pub noLine : List ℕ
@@ -39,13 +43,13 @@ noLine = 114 ∷ 117 ∷ 110 ∷ 32 ∷ 110 ∷ 111 ∷ 10 ∷ []
 abbrev pub yesLine : List ℕ
 yesLine = 114 ∷ 117 ∷ 110 ∷ 32 ∷ 121 ∷ 101 ∷ 115 ∷ 10 ∷ []
 
--- A value: the number of its cell, or own for 255.
+-- = X, the number of a value's cell; or = own, for 255
 abbrev pub value : ℕ → List ℕ
-value x = cond (eqb x 255) (111 ∷ 119 ∷ 110 ∷ []) (decimal x)
+value x = cond (eqb x 255) (32 ∷ 61 ∷ 32 ∷ 111 ∷ 119 ∷ 110 ∷ 10 ∷ []) (told (32 ∷ 61 ∷ 32 ∷ []) x ++ feed)
 
 -- vV = X
 abbrev pub valueLine : ℕ → ℕ → List ℕ
-valueLine v x = (118 ∷ []) ++ (decimal v ++ ((32 ∷ 61 ∷ 32 ∷ []) ++ (value x ++ feed)))
+valueLine v x = told (118 ∷ []) v ++ value x
 
 -- The line of the cell v with the entry x: a variable has one, any other cell none.
 abbrev pub lineOf : Cell → ℕ → ℕ → List ℕ

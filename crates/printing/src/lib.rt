@@ -1,10 +1,10 @@
 // The reply to a run as the program prints it: lines of text in a lent buffer. 1,437 bytes are enough for each reply.
 use running::Solved;
 ghost use mathlib.Core.Path.{_≡_};
-ghost use mathlib.Core.List.{_++_};
-ghost use Prim.Native.Nat.{_+_, _*_, _<_, _≤_};
+ghost use mathlib.Core.List.{[], _∷_, _++_};
+ghost use Prim.Native.Nat.{_+_, _*_, _/_, _%_, _<_, _≤_};
 ghost use lib.ListN.{length};
-ghost use Rattle.printing.specs.Lines.{decimal, value, valueLine, refusedLine, countsLine, noLine, yesLine};
+ghost use Rattle.printing.specs.Lines.{decimal, told, value, valueLine, refusedLine, countsLine, noLine, yesLine};
 ghost use Rattle.printing.specs.Promise.{ReplyPromise};
 ghost use Rattle.printing.specs.Put.{Put, kindLine, kindLines};
 
@@ -21,12 +21,22 @@ fn put_text(text: &[u8], at: usize, out: &mut [u8]) -> usize
     at + i
 }
 
-// The character of a digit.
-fn digit(n: usize) -> u8
-    requires { ⌜ n < 10 ⌝ }
-    ensures { λ r. ⌜ r ≡ 48 + n ⌝ }
+// Puts a digit.
+fn put_digit(n: usize, at: usize, out: &mut [u8]) -> usize
+    requires { ⌜ (n < 10) × (at < length (now out)) ⌝ }
+    ensures { λ r. ⌜ Put ((48 + n) ∷ []) (now (out .entry)) at (now (out .exit)) r ⌝ }
 {
-    b'0' + n as u8
+    out[at] = b'0' + n as u8;
+    at + 1
+}
+
+// Puts two digits.
+fn put_digits(n: usize, at: usize, out: &mut [u8]) -> usize
+    requires { ⌜ (n < 100) × (at + 2 ≤ length (now out)) ⌝ }
+    ensures { λ r. ⌜ Put ((48 + n / 10) ∷ (48 + n % 10) ∷ []) (now (out .entry)) at (now (out .exit)) r ⌝ }
+{
+    let tens = put_digit(n / 10, at, out);
+    put_digit(n % 10, tens, out)
 }
 
 // Puts a number below 1,000 in decimal.
@@ -35,18 +45,22 @@ fn put_number(n: usize, at: usize, out: &mut [u8]) -> usize
     ensures { λ r. ⌜ Put (decimal n) (now (out .entry)) at (now (out .exit)) r × (r ≤ at + 3) ⌝ }
 {
     if n < 10 {
-        out[at] = digit(n);
-        return at + 1;
+        return put_digit(n, at, out);
     }
     if n < 100 {
-        out[at] = digit(n / 10);
-        out[at + 1] = digit(n % 10);
-        return at + 2;
+        return put_digits(n, at, out);
     }
-    out[at] = digit(n / 10 / 10);
-    out[at + 1] = digit(n / 10 % 10);
-    out[at + 2] = digit(n % 10);
-    at + 3
+    let hundreds = put_digits(n / 10, at, out);
+    put_digit(n % 10, hundreds, out)
+}
+
+// Puts a text and a number behind it.
+fn put_told(text: &[u8], n: usize, at: usize, out: &mut [u8]) -> usize
+    requires { ⌜ (n < 1000) × (at + (length (now text) + 3) ≤ length (now out)) ⌝ }
+    ensures { λ r. ⌜ Put (told (now (text .entry)) n) (now (out .entry)) at (now (out .exit)) r × (r ≤ at + (length (now (text .entry)) + 3)) ⌝ }
+{
+    let next = put_text(text, at, out);
+    put_number(n, next, out)
 }
 
 // Puts the line of a refusal at the front.
@@ -54,11 +68,9 @@ fn put_refusal(number: u8, place: usize, out: &mut [u8]) -> usize
     requires { ⌜ (place < 1000) × (1437 ≤ length (now out)) ⌝ }
     ensures { λ r. ⌜ Put (refusedLine number place) (now (out .entry)) 0 (now (out .exit)) r ⌝ }
 {
-    let word = put_text(b"refused ", 0, out);
-    let told = put_number(number as usize, word, out);
-    let link = put_text(b" at ", told, out);
-    let stood = put_number(place, link, out);
-    put_text(b"\n", stood, out)
+    let numbered = put_told(b"refused ", number as usize, 0, out);
+    let placed = put_told(b" at ", place, numbered, out);
+    put_text(b"\n", placed, out)
 }
 
 // Puts the line of counts at the front.
@@ -66,22 +78,21 @@ fn put_counts(cells: usize, events: usize, out: &mut [u8]) -> usize
     requires { ⌜ (cells < 1000) × (events < 1000) × (1437 ≤ length (now out)) ⌝ }
     ensures { λ r. ⌜ Put (countsLine cells events) (now (out .entry)) 0 (now (out .exit)) r × (r ≤ 21) ⌝ }
 {
-    let word = put_text(b"cells ", 0, out);
-    let counted = put_number(cells, word, out);
-    let link = put_text(b" events ", counted, out);
-    let told = put_number(events, link, out);
-    put_text(b"\n", told, out)
+    let first = put_told(b"cells ", cells, 0, out);
+    let second = put_told(b" events ", events, first, out);
+    put_text(b"\n", second, out)
 }
 
 // Puts a value: its cell, or his own name.
 fn put_entry(entry: u8, at: usize, out: &mut [u8]) -> usize
-    requires { ⌜ at + 3 ≤ length (now out) ⌝ }
-    ensures { λ r. ⌜ Put (value entry) (now (out .entry)) at (now (out .exit)) r × (r ≤ at + 3) ⌝ }
+    requires { ⌜ at + 7 ≤ length (now out) ⌝ }
+    ensures { λ r. ⌜ Put (value entry) (now (out .entry)) at (now (out .exit)) r × (r ≤ at + 7) ⌝ }
 {
     if entry == 255 {
-        return put_text(b"own", at, out);
+        return put_text(b" = own\n", at, out);
     }
-    put_number(entry as usize, at, out)
+    let named = put_told(b" = ", entry as usize, at, out);
+    put_text(b"\n", named, out)
 }
 
 // Puts the line of the variable v.
@@ -89,11 +100,8 @@ fn put_value(v: usize, entry: u8, at: usize, out: &mut [u8]) -> usize
     requires { ⌜ (v < 1000) × (at + 11 ≤ length (now out)) ⌝ }
     ensures { λ r. ⌜ Put (valueLine v entry) (now (out .entry)) at (now (out .exit)) r × (r ≤ at + 11) ⌝ }
 {
-    let word = put_text(b"v", at, out);
-    let named = put_number(v, word, out);
-    let link = put_text(b" = ", named, out);
-    let told = put_entry(entry, link, out);
-    put_text(b"\n", told, out)
+    let named = put_told(b"v", v, at, out);
+    put_entry(entry, named, out)
 }
 
 // Puts the line of a cell of this kind, if it is a variable.
