@@ -15,8 +15,8 @@ use Rattle.theory.specs.Cells.{Rows}
 use Rattle.theory.specs.Level.{Shut, Kin}
 use Rattle.theory.proofs.Level.{kin-part}
 use Rattle.theory.proofs.Rows.{rows-part}
-use Rattle.knowledge.specs.Sweeps.{Decides}
-use Rattle.knowledge.proofs.ByKind.{decides-no, decides-eqb}
+use Rattle.theory.specs.Decides.{Decides}
+use Rattle.theory.proofs.Decides.{decides-no, decides-eqb}
 
 pub kin-sym : {k k′ : Cell} → Kin k k′ → Kin k′ k
 kin-sym Kin.ones = Kin.ones

@@ -8,9 +8,9 @@ use wants::sets::over;
 ghost use Prim.Native.Nat.{_≤_, _<_};
 ghost use Rattle.model.specs.Stored.{tableAt};
 ghost use Rattle.theory.specs.Cells.{Rows, EventRows};
+ghost use Rattle.theory.specs.Decides.{Decides};
 ghost use Rattle.classes.specs.Kept.{Kept};
 ghost use Rattle.knowledge.specs.Knowledge.{Marked};
-ghost use Rattle.knowledge.specs.Sweeps.{Decides};
 ghost use Rattle.granting.specs.Leaks.{Bright, LeakTold, LeakingRow, Leaking, Leaked};
 
 // Does y come to light, in the place of x?

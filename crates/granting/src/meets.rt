@@ -10,9 +10,9 @@ ghost use Prim.Native.Nat.{ℕ, _<_};
 ghost use Rattle.model.specs.Stored.{cellAt, tableAt};
 ghost use Rattle.theory.specs.Cells.{Rows, On};
 ghost use Rattle.theory.specs.Level.{Kin};
+ghost use Rattle.theory.specs.Decides.{Decides};
 ghost use Rattle.classes.specs.Kept.{Kept};
 ghost use Rattle.knowledge.specs.Knowledge.{Marked};
-ghost use Rattle.knowledge.specs.Sweeps.{Decides};
 ghost use Rattle.granting.specs.Meets.{May, Alone, EarnsTold, Granting};
 
 // Are two cells of one kind that has parts and does not give them by itself? By their kinds and first bytes.

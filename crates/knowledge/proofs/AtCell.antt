@@ -9,11 +9,13 @@ use Rattle.model.proofs.Read.{clash}
 use Rattle.model.specs.Case.{Table}
 use Rattle.model.specs.Stored.{tableAt}
 use Rattle.theory.specs.Cells.{Rows, classAt, On}
+use Rattle.theory.specs.Decides.{Decides}
+use Rattle.theory.proofs.Decides.{decides-iff}
 use Rattle.knowledge.specs.declared.Found.{Found}
 use Rattle.knowledge.specs.declared.Found.the-variants.{Parts, Nothing}
 use Rattle.knowledge.specs.Knowledge.{ClassRow}
-use Rattle.knowledge.specs.Sweeps.{leftPart, rightPart, leftClass, rightClass, Composed, Gives, Decides, Newly, Shows, Finds}
-use Rattle.knowledge.proofs.ByKind.{decides-iff, left-low, right-low}
+use Rattle.knowledge.specs.Sweeps.{leftPart, rightPart, leftClass, rightClass, Composed, Gives, Newly, Shows, Finds}
+use Rattle.knowledge.proofs.ByKind.{left-low, right-low}
 
 -- The parts of a cell are cells.
 module _ {n : ℕ} {K F S : List ℕ} (w : Rows n K F S) (c : ℕ) (h : c < n) where

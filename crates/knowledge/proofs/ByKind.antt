@@ -1,31 +1,18 @@
 -- The decisions on a cell, by its kind.
 use mathlib.Core.Path.{_≡_, refl, sym, _∙_}
-use mathlib.Core.Bool.{Bool, true, false, true≢false, false≢true}
+use mathlib.Core.Bool.{Bool, true, false}
 use mathlib.Core.Logic.{_⊎_, inl, inr}
 use Prim.Native.Nat.{ℕ, zero, suc, _+_, _*_, _≤_, _<_}
 use native.Mathlib.Omega.{arith}
 use lib.Dec.{eqb}
-use borrow.Author.Tests.{eqb-true, eqb-false}
 use Rattle.model.specs.Case.{Cell, AT, VA, ONE, TWO, PR, Part, in-arg, in-left, in-right}
 use Rattle.model.specs.Stored.{cellAt}
 use Rattle.model.proofs.Read.{clash}
 use Rattle.model.proofs.Stored.{var-kind}
 use Rattle.theory.specs.Cells.{Composes, Makes}
-use Rattle.knowledge.specs.Sweeps.{leftPart, rightPart, Composed, Gives, Decides}
-
--- ---- answers
-
-pub decides-yes : {P : Type 0} → P → Decides true P
-decides-yes x = record { yes = λ e. x; no = λ e. absurd (true≢false e) }
-
-pub decides-no : {P : Type 0} → (P → ⊥) → Decides false P
-decides-no f = record { yes = λ e. absurd (false≢true e); no = λ e. f }
-
-pub decides-eqb : (a b : ℕ) {P : Type 0} → (a ≡ b → P) → (P → a ≡ b) → Decides (eqb a b) P
-decides-eqb a b to of = record { yes = λ e. to (eqb-true a b e); no = λ e x. eqb-false a b e (of x) }
-
-pub decides-iff : {r : Bool} {P Q : Type 0} → Decides r P → (P → Q) → (Q → P) → Decides r Q
-decides-iff d to of = record { yes = λ e. to (d .yes e); no = λ e x. d .no e (of x) }
+use Rattle.theory.specs.Decides.{Decides}
+use Rattle.theory.proofs.Decides.{decides-yes, decides-no, decides-eqb, decides-iff}
+use Rattle.knowledge.specs.Sweeps.{leftPart, rightPart, Composed, Gives}
 
 -- ---- parts
 

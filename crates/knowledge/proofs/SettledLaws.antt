@@ -15,19 +15,13 @@ use Rattle.model.proofs.Read.{clash}
 use Rattle.theory.specs.Cells.{classAt, On}
 use Rattle.theory.specs.Level.{Mark, built}
 use Rattle.theory.proofs.MarkRows.{on?}
+use Rattle.theory.specs.Decides.{Decides}
 use Rattle.classes.proofs.SettledLaws.{row-ext, start-settled}
 use Rattle.knowledge.specs.declared.Marks.{Marks}
 use Rattle.knowledge.specs.declared.heard.Knowledge.{Knowledge}
 use Rattle.knowledge.specs.Knowledge.{Marked, Learns, Starts, Opened}
-use Rattle.knowledge.specs.Sweeps.{Decides, OwnMarks}
+use Rattle.knowledge.specs.Sweeps.{OwnMarks}
 use Rattle.knowledge.specs.Heard.{HeardOpened}
-
--- Two answers that decide one question are equal.
-pub decides-settled : {P : Type 0} (r r′ : Bool) → Decides r P → Decides r′ P → r ≡ r′
-decides-settled true true w w′ = refl
-decides-settled true false w w′ = absurd (w′ .no refl (w .yes refl))
-decides-settled false true w w′ = absurd (w .no refl (w′ .yes refl))
-decides-settled false false w w′ = refl
 
 -- Two rows of zeros and ones with the same marks are equal.
 pub bits-ext : (r r′ : List ℕ) → ((c : ℕ) → getD r c 0 ≤ 1) → ((c : ℕ) → getD r′ c 0 ≤ 1) → length r ≡ 129 → length r′ ≡ 129 →

@@ -48,11 +48,6 @@ pub data Gives (k : Cell) (b : ℕ) : Type 0 where
   pairs : {l r : ℕ} → k ≡ PR l r → Gives k b
   keys : {i j : ℕ} → Makes k i j → b ≡ 1 → Gives k b
 
--- The answer r tells whether P holds.
-pub record Decides (r : Bool) (P : Type 0) : Type 0 where
-  pub yes : r ≡ true → P
-  pub no : r ≡ false → P → ⊥
-
 -- The cell c stands for its class, is not yet marked as built, and is built.
 pub record Newly (T : Table) (rep seens builts : List ℕ) (c : ℕ) : Type 0 where
   pub stands : classAt rep c ≡ c

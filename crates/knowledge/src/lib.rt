@@ -5,8 +5,9 @@ ghost use mathlib.Core.Path.{_≡_};
 ghost use Prim.Native.Nat.{ℕ, _≤_, _<_, _+_, _*_};
 ghost use Rattle.model.specs.Stored.{cellAt, tableAt};
 ghost use Rattle.theory.specs.Cells.{Rows, classAt};
+ghost use Rattle.theory.specs.Decides.{Decides};
 ghost use Rattle.knowledge.specs.Knowledge.{ClassRow, Marked, Learns, Opened};
-ghost use Rattle.knowledge.specs.Sweeps.{leftPart, rightPart, Composed, Gives, Decides, Newly, Finds, Rising, Falling, Turned, OwnMarks};
+ghost use Rattle.knowledge.specs.Sweeps.{leftPart, rightPart, Composed, Gives, Newly, Finds, Rising, Falling, Turned, OwnMarks};
 
 // The marks, 0 or 1, of the cells that are seen and of those that can be built.
 pub struct Marks {

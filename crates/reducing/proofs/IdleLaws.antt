@@ -8,16 +8,17 @@ use lib.Dec.{eqb}
 use lib.ListN.{getD}
 use Rattle.theory.specs.Cells.{classAt}
 use Rattle.model.specs.Stored.{cellAt}
-use Rattle.reducing.specs.Bare.{Tells, Idle}
-use Rattle.reducing.proofs.TellLaws.{tells-eq, tells-map}
+use Rattle.theory.specs.Decides.{Decides}
+use Rattle.theory.proofs.Decides.{decides-eqb, decides-iff}
+use Rattle.reducing.specs.Bare.{Idle}
 
 module _ (B : ℕ → Type 0) where
   pub idle-first : (k x y : ℕ) → k ≡ 0 → (x ≡ 0 → ⊥) → Idle B (cellAt k x y) → ⊥
   idle-first zero x y e h i = h (omega arith)
   idle-first (suc k) x y e h i = omega arith
 
-  pub idle-atom : (k x y : ℕ) → k ≡ 0 → x ≡ 0 → Tells (Idle B (cellAt k x y)) (eqb y 0)
-  idle-atom zero x y e h = tells-eq y 0 (λ i. omega arith) (λ n i. n (omega arith))
+  pub idle-atom : (k x y : ℕ) → k ≡ 0 → x ≡ 0 → Decides (eqb y 0) (Idle B (cellAt k x y))
+  idle-atom zero x y e h = decides-eqb y 0 (λ i. omega arith) (λ i. omega arith)
   idle-atom (suc k) x y e h = absurd (omega arith)
 
   pub idle-second : (k x y : ℕ) → (k ≡ 0 → ⊥) → (k ≡ 1 → ⊥) → (B y → ⊥) → Idle B (cellAt k x y) → ⊥
@@ -34,11 +35,11 @@ module _ (B : ℕ → Type 0) where
   idle-app (suc (suc (suc zero))) x y h b = absurd (omega arith)
   idle-app (suc (suc (suc (suc k)))) x y h b = b
 
-  pub idle-two : (k x y : ℕ) (t : Bool) → (k ≡ 0 → ⊥) → (k ≡ 1 → ⊥) → k < 4 → B y → Tells (B x) t → Tells (Idle B (cellAt k x y)) t
+  pub idle-two : (k x y : ℕ) (t : Bool) → (k ≡ 0 → ⊥) → (k ≡ 1 → ⊥) → k < 4 → B y → Decides t (B x) → Decides t (Idle B (cellAt k x y))
   idle-two zero x y t z v h b q = absurd (z refl)
   idle-two (suc zero) x y t z v h b q = absurd (v refl)
-  idle-two (suc (suc zero)) x y t z v h b q = tells-map t (λ a. (a, b)) (λ (a, b). a) q
-  idle-two (suc (suc (suc zero))) x y t z v h b q = tells-map t (λ a. (a, b)) (λ (a, b). a) q
+  idle-two (suc (suc zero)) x y t z v h b q = decides-iff q (λ a. (a, b)) (λ (a, b). a)
+  idle-two (suc (suc (suc zero))) x y t z v h b q = decides-iff q (λ a. (a, b)) (λ (a, b). a)
   idle-two (suc (suc (suc (suc k)))) x y t z v h b q = absurd (omega arith)
 
 pub class-below : (rep : List ℕ) (c : ℕ) → c < 128 → getD rep c 0 ≡ classAt rep c

@@ -1,5 +1,4 @@
 -- The laws of reducing.
-pub mod TellLaws
 pub mod IdleLaws
 pub mod MarkLaws
 pub mod KeepLaws

@@ -1,8 +1,7 @@
 -- Which cells are bare, and which are kept: the bare ones and all that stands in them. A cell that stands for its class speaks for it.
--- Tells: yes or no; Idle, IsBare, Bares: the bare cells; Kept, Keeps: the kept ones; heightAt, Heights: the heights of the messages.
+-- Idle, IsBare, Bares: the bare cells; Kept, Keeps: the kept ones; heightAt, Heights: the heights of the messages.
 use mathlib.Core.Path.{_≡_}
 use mathlib.Core.Logic.{_↔_}
-use mathlib.Core.Bool.{Bool, true, false}
 use mathlib.Core.List.{List}
 use Prim.Native.Nat.{ℕ, _+_, _≤_, _<_, max}
 use lib.ListN.{length, getD}
@@ -10,11 +9,6 @@ use Rattle.model.specs.Message.{Message}
 use Rattle.model.specs.Case.{Cell, AT, VA, ONE, TWO, Table, Part, Ground}
 use Rattle.model.specs.Reduce.{height}
 use Rattle.theory.specs.Cells.{classAt, On}
-
--- The answer tells whether P holds.
-abbrev pub Tells : Type 0 → Bool → Type 0
-Tells P true = P
-Tells P false = P → ⊥
 
 -- A cell that the reduced file does not list: name 0, or composed of parts that have B.
 abbrev pub Idle : (ℕ → Type 0) → Cell → Type 0

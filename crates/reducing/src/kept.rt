@@ -4,7 +4,8 @@ ghost use Prim.Native.Nat.{ℕ, _<_, _≤_};
 ghost use lib.ListN.{getD};
 ghost use Rattle.model.specs.Stored.{cellAt, tableAt};
 ghost use Rattle.theory.specs.Cells.{classAt, On};
-ghost use Rattle.reducing.specs.Bare.{Tells, Idle, BuiltClass, IsBare, Bares, Keeps, Adds};
+ghost use Rattle.theory.specs.Decides.{Decides};
+ghost use Rattle.reducing.specs.Bare.{Idle, BuiltClass, IsBare, Bares, Keeps, Adds};
 ghost use Rattle.reducing.specs.Given.{Given};
 
 // The class of the cell d.
@@ -21,7 +22,7 @@ pub fn class_of<'a>(rep: &'a [u8; 129], d: u8) -> usize
 // Whether a cell that is no variable is name 0 or composed of built parts.
 fn is_idle<'a>(kind: u8, first: u8, second: u8, rep: &'a [u8; 129], built: &'a [u8; 129]) -> bool
     requires { ⌜ ((c : ℕ) → getD (now rep) c 0 ≤ 128) × (kind ≡ 1 → ⊥) ⌝ }
-    ensures { λ r. ⌜ Tells (Idle (BuiltClass (now (rep .entry)) (now (built .entry))) (cellAt kind first second)) r ⌝ }
+    ensures { λ r. ⌜ Decides r (Idle (BuiltClass (now (rep .entry)) (now (built .entry))) (cellAt kind first second)) ⌝ }
 {
     if kind == 0 {
         if first != 0 {
@@ -50,7 +51,7 @@ fn is_bare<'a>(
     built: &'a [u8; 129],
 ) -> bool
     requires { ⌜ ((c : ℕ) → getD (now rep) c 0 ≤ 128) × (kind ≡ 1 → ⊥) × (c < 128) ⌝ }
-    ensures { λ r. ⌜ Tells (IsBare (now (rep .entry)) (now (built .entry)) c (cellAt kind first second)) r ⌝ }
+    ensures { λ r. ⌜ Decides r (IsBare (now (rep .entry)) (now (built .entry)) c (cellAt kind first second)) ⌝ }
 {
     let z = rep[c] as usize;
     if z != c {

@@ -5,16 +5,11 @@ use mathlib.Core.List.{List}
 use Prim.Native.Nat.{ℕ, _+_, _≤_, _<_}
 use native.Mathlib.Omega.{arith}
 use native.Mathlib.Decide.{decLt}
-use lib.Dec.{ltb}
-use borrow.Author.Tests.{ltb-true, ltb-false}
 use Rattle.model.specs.Case.{Table}
 use Rattle.theory.specs.Cells.{classAt, On}
 use Rattle.theory.specs.Level.{Kin}
-use Rattle.knowledge.specs.Sweeps.{Decides}
+use Rattle.theory.specs.Decides.{Decides}
 use Rattle.solving.specs.Pairs.{Mirrored, Pairs, place, NoPair}
-
-pub decides-ltb : (a b : ℕ) {P : Type 0} → (a < b → P) → (P → a < b) → Decides (ltb a b) P
-decides-ltb a b to of = record { yes = λ e. to (ltb-true a b e); no = λ e x. absurd (let h = ltb-false a b e in let l = of x in omega arith) }
 
 -- Cells of one kind stay to be told, once the rest of a pair holds.
 pub pairs-kin : {r : Bool} {T : Table} {rep want bare : List ℕ} {c d : ℕ} → On want c → On bare d → (classAt rep c ≡ classAt rep d → ⊥) → (Mirrored want bare c d → ⊥) →

@@ -5,7 +5,7 @@ ghost use mathlib.Core.List.{List};
 ghost use Prim.Native.Nat.{ℕ, _≤_, _<_};
 ghost use Rattle.model.specs.Stored.{tableAt};
 ghost use Rattle.theory.specs.Cells.{On};
-ghost use Rattle.knowledge.specs.Sweeps.{Decides};
+ghost use Rattle.theory.specs.Decides.{Decides};
 ghost use Rattle.solving.specs.Pairs.{Mirrored, Pairs, place, NextPair};
 
 // A pair to be tried, or none.

@@ -1,4 +1,5 @@
 -- The laws of the theory.
+pub mod Decides
 pub mod Parts
 pub mod Local
 pub mod Bare

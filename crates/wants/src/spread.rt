@@ -4,8 +4,8 @@ use knowledge::class_of;
 ghost use Prim.Native.Nat.{_≤_, _<_};
 ghost use Rattle.model.specs.Stored.{tableAt};
 ghost use Rattle.theory.specs.Cells.{Rows};
+ghost use Rattle.theory.specs.Decides.{Decides};
 ghost use Rattle.knowledge.specs.Knowledge.{ClassRow, Marked};
-ghost use Rattle.knowledge.specs.Sweeps.{Decides};
 ghost use Rattle.wants.specs.Spread.{Reaches, Lowering, Lowered, Raises, Raising, Raised};
 
 // A row of marks, and whether it has more than before.

@@ -7,8 +7,8 @@ ghost use mathlib.Core.Path.{_≡_};
 ghost use Prim.Native.Nat.{_≤_, _<_};
 ghost use Rattle.model.specs.Stored.{tableAt};
 ghost use Rattle.theory.specs.Cells.{Rows, EventRows};
+ghost use Rattle.theory.specs.Decides.{Decides};
 ghost use Rattle.knowledge.specs.Knowledge.{ClassRow, Marked};
-ghost use Rattle.knowledge.specs.Sweeps.{Decides};
 ghost use Rattle.wants.specs.Starts.{EndsAt, BareAt, BareTo, KeyTold, Keyed, FreeSeen, DueTold, Due};
 
 // A cell to be marked, or none.

@@ -1,7 +1,8 @@
 -- `knowledge::composed` meets its contract: one law for each rule, by the kind.
 use borrow.Author.Needs.{needs}
+use Rattle.theory.proofs.Decides.{decides-yes, decides-no}
 use Rattle.knowledge.specs.Sweeps.{Composed}
-use Rattle.knowledge.proofs.ByKind.{decides-yes, decides-no, composed-name, composed-free, composed-parts, composed-made}
+use Rattle.knowledge.proofs.ByKind.{composed-name, composed-free, composed-parts, composed-made}
 use Rattle.knowledge.proofs.composed.Statement.{statement}
 use Rattle.knowledge.proofs.composed.Tie as tie
 

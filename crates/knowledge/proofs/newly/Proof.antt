@@ -5,8 +5,8 @@ use borrow.Author.Needs.{needs}
 use Rattle.model.specs.Case.{Table}
 use Rattle.model.specs.Stored.{tableAt}
 use Rattle.theory.specs.Cells.{classAt}
+use Rattle.theory.proofs.Decides.{decides-no}
 use Rattle.knowledge.proofs.AtCell.{left-end, right-end, newly-decides, left-cell, right-cell}
-use Rattle.knowledge.proofs.ByKind.{decides-no}
 use Rattle.knowledge.proofs.newly.Statement.{statement}
 use Rattle.knowledge.proofs.newly.Tie as tie
 

@@ -1,6 +1,6 @@
 -- `knowledge::own_name` meets its contract: the name first * 256 + second is 0 exactly if both bytes are.
 use native.Mathlib.Omega.{arith}
-use Rattle.knowledge.proofs.ByKind.{decides-no, decides-eqb}
+use Rattle.theory.proofs.Decides.{decides-no, decides-eqb}
 use Rattle.knowledge.proofs.own_name.Statement.{statement}
 use Rattle.knowledge.proofs.own_name.Tie as tie
 

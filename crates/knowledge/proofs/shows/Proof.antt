@@ -7,7 +7,8 @@ use borrow.Author.Tests.{not-true, not-false}
 use Rattle.model.specs.Case.{Table}
 use Rattle.model.specs.Stored.{tableAt}
 use Rattle.theory.specs.Cells.{classAt}
-use Rattle.knowledge.specs.Sweeps.{Gives, Decides, Finds}
+use Rattle.theory.specs.Decides.{Decides}
+use Rattle.knowledge.specs.Sweeps.{Gives, Finds}
 use Rattle.knowledge.proofs.AtCell.{left-cell, right-cell, left-end, right-end, shows-new, shows-mute, shows-old}
 use Rattle.knowledge.proofs.shows.Statement.{statement}
 use Rattle.knowledge.proofs.shows.Tie as tie

@@ -6,7 +6,6 @@ use native.Mathlib.Omega.{arith}
 use denote.Ref.{now}
 use Rattle.model.specs.Stored.{tableAt}
 use Rattle.reducing.specs.Bare.{IsBare, Marking, Bares}
-use Rattle.reducing.proofs.TellLaws.{tells-yes, tells-no}
 use Rattle.reducing.proofs.MarkLaws.{marks-none, marks-yes, marks-no}
 use Rattle.reducing.proofs.kept.bare.Statement.{statement}
 use Rattle.reducing.proofs.kept.bare.Tie as tie
@@ -51,12 +50,11 @@ loop-again c =
     let l = c .before .before .before .before .before .before in
     let a = l .before .args in
     let i = l .loop .c in
-    let P : ℕ → Type 0 = λ i. IsBare (now (a .rep)) (now (a .built)) i (tableAt (now (a .kind)) (now (a .first)) (now (a .second)) i) in
-    let t = c .before .is-bare .result in (
+    let P : ℕ → Type 0 = λ i. IsBare (now (a .rep)) (now (a .built)) i (tableAt (now (a .kind)) (now (a .first)) (now (a .second)) i) in (
       omega arith,
       ⊎-elim
-          (λ (w, e). subst (Marking P _) (sym e) (marks-yes P i (l .loop .marks) (l .loop .inv .1) (omega (arith, l .before .pre .rows .few)) (tells-yes (P i) t (w .taken) (c .before .is-bare .ensures))))
-          (λ (w, e). subst (Marking P _) (sym e) (marks-no P i (l .loop .marks) (l .loop .inv .1) (tells-no (P i) t (w .left) (c .before .is-bare .ensures))))
+          (λ (w, e). subst (Marking P _) (sym e) (marks-yes P i (l .loop .marks) (l .loop .inv .1) (omega (arith, l .before .pre .rows .few)) (c .before .is-bare .ensures .yes (w .taken))))
+          (λ (w, e). subst (Marking P _) (sym e) (marks-no P i (l .loop .marks) (l .loop .inv .1) (c .before .is-bare .ensures .no (w .left))))
           (c .if1 .came),
     )
 

@@ -1,7 +1,6 @@
 -- A case for each test.
 use borrow.Author.Needs.{needs}
-use Rattle.knowledge.proofs.ByKind.{decides-no}
-use Rattle.solving.proofs.PairLaws.{decides-ltb}
+use Rattle.theory.proofs.Decides.{decides-no, decides-ltb}
 use Rattle.solving.proofs.pairs.in_row.Statement.{statement}
 use Rattle.solving.proofs.pairs.in_row.Tie as tie
 

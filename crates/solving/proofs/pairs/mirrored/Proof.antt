@@ -1,7 +1,7 @@
 -- A case for each test.
 use native.Mathlib.Omega.{arith}
 use borrow.Author.Needs.{needs}
-use Rattle.knowledge.proofs.ByKind.{decides-no, decides-eqb}
+use Rattle.theory.proofs.Decides.{decides-no, decides-eqb}
 use Rattle.solving.proofs.pairs.mirrored.Statement.{statement}
 use Rattle.solving.proofs.pairs.mirrored.Tie as tie
 

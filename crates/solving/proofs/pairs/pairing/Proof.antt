@@ -1,7 +1,7 @@
 -- A case for each test; the last one is the kinds'.
 use mathlib.Core.Path.{sym, _∙_}
 use borrow.Author.Needs.{needs}
-use Rattle.knowledge.proofs.ByKind.{decides-no}
+use Rattle.theory.proofs.Decides.{decides-no}
 use Rattle.solving.proofs.PairLaws.{pairs-kin}
 use Rattle.solving.proofs.pairs.pairing.Statement.{statement}
 use Rattle.solving.proofs.pairs.pairing.Tie as tie

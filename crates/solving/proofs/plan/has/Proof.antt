@@ -3,7 +3,7 @@ use mathlib.Core.Path.{sym, _∙_, ap, subst}
 use native.Mathlib.Omega.{arith}
 use borrow.Author.Needs.{needs}
 use Rattle.theory.specs.Cells.{classAt, On}
-use Rattle.knowledge.proofs.ByKind.{decides-eqb, decides-iff}
+use Rattle.theory.proofs.Decides.{decides-eqb, decides-iff}
 use Rattle.solving.proofs.plan.has.Statement.{statement}
 use Rattle.solving.proofs.plan.has.Tie as tie
 

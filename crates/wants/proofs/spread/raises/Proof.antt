@@ -1,8 +1,8 @@
 -- A case for each test.
 use mathlib.Core.Path.{sym, _∙_}
 use borrow.Author.Needs.{needs}
+use Rattle.theory.proofs.Decides.{decides-yes, decides-no, decides-eqb}
 use Rattle.model.specs.Stored.{tableAt}
-use Rattle.knowledge.proofs.ByKind.{decides-yes, decides-no, decides-eqb}
 use Rattle.wants.proofs.SpreadLaws.{raises-left, raises-right, raises-none}
 use Rattle.wants.proofs.spread.raises.Statement.{statement}
 use Rattle.wants.proofs.spread.raises.Tie as tie

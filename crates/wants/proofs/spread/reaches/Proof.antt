@@ -1,7 +1,7 @@
 -- A case for each test.
 use borrow.Author.Tests.{eqb-true, eqb-false, not-true, not-false}
 use borrow.Author.Needs.{needs}
-use Rattle.knowledge.proofs.ByKind.{decides-no}
+use Rattle.theory.proofs.Decides.{decides-no}
 use Rattle.wants.proofs.spread.reaches.Statement.{statement}
 use Rattle.wants.proofs.spread.reaches.Tie as tie
 

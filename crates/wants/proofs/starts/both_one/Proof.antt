@@ -1,5 +1,5 @@
 -- A case for each test.
-use Rattle.knowledge.proofs.ByKind.{decides-eqb, decides-no}
+use Rattle.theory.proofs.Decides.{decides-eqb, decides-no}
 use Rattle.wants.proofs.starts.both_one.Statement.{statement}
 use Rattle.wants.proofs.starts.both_one.Tie as tie
 

@@ -4,7 +4,7 @@ use borrow.Author.Tests.{eq-eqb, eqb-true, not-false, not-true}
 use borrow.Author.Needs.{needs}
 use mathlib.Core.Path.{sym, _∙_}
 use mathlib.Core.Bool.{true≢false}
-use Rattle.knowledge.proofs.ByKind.{decides-no, decides-yes}
+use Rattle.theory.proofs.Decides.{decides-no, decides-yes}
 use Rattle.wants.proofs.StartLaws.{bare-open, bare-made, bare-here}
 use Rattle.wants.proofs.starts.is_bare.Statement.{statement}
 use Rattle.wants.proofs.starts.is_bare.Tie as tie
