@@ -1,4 +1,4 @@
--- From what is read of the bytes and the reply on the stored table to the promise; and that the promise settles the reply.
+-- From what is read of the bytes and what the search says to the promise; and that the promise settles the reply.
 use mathlib.Core.Path.{_≡_, refl, sym, _∙_, ap, subst}
 use mathlib.Core.Bool.{true, false}
 use mathlib.Core.List.{List, _++_, append-assoc}
@@ -9,7 +9,7 @@ use native.Mathlib.Numerals.{add-one}
 use native.Mathlib.Omega.{arith}
 use lib.ListN.{length, getD, take, drop, set}
 use lib.Seq.{take-suc, drop-cons, set-at, length-take-le}
-use Rattle.model.specs.Case.{Table, Run, File, WellFormed, tableOf, runOf}
+use Rattle.model.specs.Case.{File, WellFormed, tableOf, runOf}
 use Rattle.model.specs.Format.{readFile, Reading, refused, accepted}
 use Rattle.model.specs.Stored.{tableAt, runAt}
 use Rattle.model.specs.Replies.{RightListed, NoneRight, laid, SameButList}
@@ -22,21 +22,9 @@ use Rattle.casefile.specs.declared.Case.{Case}
 use Rattle.casefile.proofs.CaseFile.{CaseFile, case-count, case-table, case-run}
 use Rattle.running.specs.declared.Solved.{Solved}
 use Rattle.running.specs.declared.Solved.the-variants.{Refused, No, Yes}
-use Rattle.running.specs.Cells.{CellsRun}
 use Rattle.running.specs.Promise.{Answered, RunPromise}
 
--- ---- the replies on a stored table
-
-module _ (n : ℕ) (T : Table) (ev : Run) (before : List ℕ) where
-  pub reply-short : length before < n → CellsRun n T ev before (Refused 9 n) before
-  reply-short s = record { short = λ _. (refl, refl); replied = λ r. absurd (omega arith); no = λ r. absurd (omega arith); yes = λ r. absurd (omega arith) }
-
-  module _ (room : n ≤ length before) (s : Solution) (w : Solves T n ev s) where
-    pub reply-no : s .yes ≡ false → CellsRun n T ev before No before
-    reply-no e = record { short = λ h. absurd (omega arith); replied = λ _. inl refl; no = λ _ _. (w .none e, refl); yes = λ _ i. clash (cc) }
-
-    pub reply-yes : s .yes ≡ true → (after : List ℕ) → after ≡ laid (take n (s .list)) before → CellsRun n T ev before (Yes n) after
-    reply-yes e after k = record { short = λ h. absurd (omega arith); replied = λ _. inr refl; no = λ _ i. clash (cc); yes = λ _ _. (take n (s .list), (w .form e, w .right e), k) }
+-- ---- the list in the buffer
 
 -- One byte more of the list, in the buffer.
 pub laid-next : (list before : List ℕ) (i : ℕ) → i < length list → i < length before → set (take i list ++ drop i before) i (getD list i 0) ≡ take (i + 1) list ++ drop (i + 1) before
@@ -47,20 +35,20 @@ laid-next list before i h h′ =
 pub laid-all : (list before : List ℕ) (n : ℕ) → n ≤ length list → take n list ++ drop n before ≡ laid (take n list) before
 laid-all list before n h = ap (λ (k : ℕ). take n list ++ drop k before) (sym (length-take-le n list h))
 
--- ---- the reply on the rows that were read, said of the file's cells
+-- ---- what the search says of the rows that were read, said of the file
 
 module _ {file : List ℕ} {r : Case} (w : CaseFile file r) where
   pub case-formed : WellFormed (tableAt (r .table .kind) (r .table .first) (r .table .second)) (runAt (r .events .count) (r .events .kind) (r .events .cell))
   case-formed = subst (λ T. WellFormed T (runAt (r .events .count) (r .events .kind) (r .events .cell))) (sym (case-table w))
       (subst (WellFormed (tableOf (w .f .cells))) (sym (case-run w)) (accepted-file file (w .f) (w .read) .formed))
 
-  pub case-ran : (before : List ℕ) (reply : Solved) (after : List ℕ) →
-      CellsRun (r .table .cells) (tableAt (r .table .kind) (r .table .first) (r .table .second)) (runAt (r .events .count) (r .events .kind) (r .events .cell)) before reply after →
-      CellsRun (length (w .f .cells)) (tableOf (w .f .cells)) (runOf (w .f .events)) before reply after
-  case-ran before reply after h =
-      subst (λ n. CellsRun n (tableOf (w .f .cells)) (runOf (w .f .events)) before reply after) (case-count w)
-      (subst (λ T. CellsRun (r .table .cells) T (runOf (w .f .events)) before reply after) (case-table w)
-      (subst (λ ev. CellsRun (r .table .cells) (tableAt (r .table .kind) (r .table .first) (r .table .second)) ev before reply after) (case-run w) h))
+  pub case-solved : (s : Solution) →
+      Solves (tableAt (r .table .kind) (r .table .first) (r .table .second)) (r .table .cells) (runAt (r .events .count) (r .events .kind) (r .events .cell)) s →
+      Solves (tableOf (w .f .cells)) (length (w .f .cells)) (runOf (w .f .events)) s
+  case-solved s h =
+      subst (λ n. Solves (tableOf (w .f .cells)) n (runOf (w .f .events)) s) (case-count w)
+      (subst (λ T. Solves T (r .table .cells) (runOf (w .f .events)) s) (case-table w)
+      (subst (λ ev. Solves (tableAt (r .table .kind) (r .table .first) (r .table .second)) (r .table .cells) ev s) (case-run w) h))
 
 -- ---- the promise
 
@@ -74,22 +62,63 @@ module _ (file before : List ℕ) where
     yes = λ f q. (let e = q .read in clash (cc));
   }
 
-  module _ (f : File) (r : readFile file ≡ accepted f) (reply : Solved) (after : List ℕ) (w : CellsRun (length (f .cells)) (tableOf (f .cells)) (runOf (f .events)) before reply after) where
-    abbrev OfFile : File → Type 0
-    OfFile g = CellsRun (length (g .cells)) (tableOf (g .cells)) (runOf (g .events)) before reply after
-
+  module _ (f : File) (r : readFile file ≡ accepted f) where
     -- The bytes are read as one file.
-    one : (g : File) → readFile file ≡ accepted g → OfFile g
-    one g e = let z : accepted f ≡ accepted g = sym r ∙ e in let y : f ≡ g = cc in subst OfFile y w
+    one : {g : File} → readFile file ≡ accepted g → f ≡ g
+    one {g} e = let z : accepted f ≡ accepted g = sym r ∙ e in cc
 
-    pub promise-accepted : RunPromise file before reply after
-    promise-accepted = record {
+    one-length : {g : File} → readFile file ≡ accepted g → length (f .cells) ≡ length (g .cells)
+    one-length e = ap (λ (g : File). length (g .cells)) (one e)
+
+    pub promise-short : length before < length (f .cells) → RunPromise file before (Refused 9 (length (f .cells))) before
+    promise-short s = record {
       unread = λ n p e. clash (cc);
-      short = λ g e. one g e .short;
-      replied = λ g q. one g (q .read) .replied (q .room);
-      no = λ g q. one g (q .read) .no (q .room);
-      yes = λ g q. one g (q .read) .yes (q .room);
+      short = λ g e _. (ap (Refused 9) (one-length e), refl);
+      replied = λ g q. absurd (omega (arith, one-length (q .read), q .room));
+      no = λ g q. absurd (omega (arith, one-length (q .read), q .room));
+      yes = λ g q. absurd (omega (arith, one-length (q .read), q .room));
     }
+
+    module _ (room : length (f .cells) ≤ length before) (s : Solution) (w : Solves (tableOf (f .cells)) (length (f .cells)) (runOf (f .events)) s) where
+      pub promise-no : s .yes ≡ false → RunPromise file before No before
+      promise-no e = record {
+        unread = λ n p i. clash (cc);
+        short = λ g i h. absurd (omega (arith, one-length i));
+        replied = λ g q. inl refl;
+        no = λ g q _. (subst NoneRight (one (q .read)) (w .none e), refl);
+        yes = λ g q i. clash (cc);
+      }
+
+      pub promise-yes : s .yes ≡ true → (after : List ℕ) → after ≡ laid (take (length (f .cells)) (s .list)) before → RunPromise file before (Yes (length (f .cells))) after
+      promise-yes e after k = record {
+        unread = λ n p i. clash (cc);
+        short = λ g i h. absurd (omega (arith, one-length i));
+        replied = λ g q. inr (ap Yes (one-length (q .read)));
+        no = λ g q i. clash (cc);
+        yes = λ g q _. (take (length (f .cells)) (s .list), subst (λ g. RightListed g (take (length (f .cells)) (s .list))) (one (q .read)) (w .form e, w .right e), k);
+      }
+
+-- ---- the promise, of the rows that were read
+
+module _ {file : List ℕ} {r : Case} (w : CaseFile file r) (before : List ℕ) where
+  pub case-few : r .table .cells ≤ 128
+  case-few = omega (arith, case-count w, accepted-file file (w .f) (w .read) .fewCells)
+
+  pub reply-short : length before < r .table .cells → RunPromise file before (Refused 9 (r .table .cells)) before
+  reply-short = subst (λ n. length before < n → RunPromise file before (Refused 9 n) before) (sym (case-count w)) (promise-short file before (w .f) (w .read))
+
+  module _ (room : r .table .cells ≤ length before) (s : Solution)
+      (h : Solves (tableAt (r .table .kind) (r .table .first) (r .table .second)) (r .table .cells) (runAt (r .events .count) (r .events .kind) (r .events .cell)) s) where
+    enough : length (w .f .cells) ≤ length before
+    enough = omega (arith, case-count w)
+
+    pub reply-no : s .yes ≡ false → RunPromise file before No before
+    reply-no = promise-no file before (w .f) (w .read) enough s (case-solved w s h)
+
+    pub reply-yes : s .yes ≡ true → (after : List ℕ) → after ≡ laid (take (r .table .cells) (s .list)) before → RunPromise file before (Yes (r .table .cells)) after
+    reply-yes e after =
+        subst (λ n. after ≡ laid (take n (s .list)) before → RunPromise file before (Yes n) after) (sym (case-count w))
+        (promise-yes file before (w .f) (w .read) enough s (case-solved w s h) e after)
 
 -- ---- the promise settles the reply
 

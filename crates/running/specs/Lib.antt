@@ -1,3 +1,2 @@
--- The promise of a run, and the same on a stored table.
+-- The promise of a run.
 pub mod Promise
-pub mod Cells

@@ -1,8 +1,9 @@
--- A refused file is replied to as it was read; an accepted one by the reply on its table and events.
+-- A refused file is replied to as it was read; then the buffer is measured, and the search decides.
 use native.Mathlib.Omega.{arith}
+use borrow.Author.Tests.{not-true, not-false}
 use denote.Ref.{now}
 use Rattle.casefile.proofs.CaseFile.{case-refused, case-accepted, case-rows, case-events}
-use Rattle.running.proofs.PromiseLaws.{case-formed, case-ran, promise-refused, promise-accepted}
+use Rattle.running.proofs.PromiseLaws.{case-formed, case-few, promise-refused, reply-short, reply-no, reply-yes}
 use borrow.Author.Needs.{needs}
 use Rattle.running.proofs.run.Statement.{statement}
 use Rattle.running.proofs.run.Tie as tie
@@ -13,38 +14,63 @@ read-case-requires c κs = search needs
 enum-known-verdict : tie.Need-enum-known-verdict
 enum-known-verdict c = search needs
 
+returns : tie.Need-returns
+returns c =
+    let r = c .before .before .before in
+    let a = r .before .before .before .args in
+    promise-refused (now (a .file)) (now (a .out)) _ _ (case-refused (now (a .file)) (r .read-case .result) (r .read-case .ensures) _ _ (c .before .verdict .given .1))
+
 enum-told : tie.Need-enum-told
 enum-told c = search needs
 
-run-cells-requires : tie.Need-run-cells-requires
-run-cells-requires c κs =
-    let told = c .before .before .before .before .before .before .before .before in
-    let r = told .before .before .before .before in
-    let s = r .before .before in
-    let file = now (s .before .args .file) in
-    let w = case-accepted file (r .read-case .result) (r .read-case .ensures) (told .enum-told .given .1) in
-    (case-rows w (λ i. omega (arith, s .shared-slice-known .given i)), (case-events w, case-formed w))
-
-returns : tie.Need-returns
-returns c =
-    let r = c .before .before .before .before .before in
+returns-2 : tie.Need-returns-2
+returns-2 c =
+    let t = c .before .before .before in
+    let r = t .before .before in
     let a = r .before .before .before .args in
-    let file = now (a .file) in
-    promise-refused file (now (a .out)) _ _ (case-refused file (r .read-case .result) (r .read-case .ensures) _ _ (c .before .verdict .given .1))
+    let w = case-accepted (now (a .file)) (r .read-case .result) (r .read-case .ensures) (t .enum-told .given .1) in
+    reply-short w (now (a .out)) (c .if1 .taken)
+
+solve-requires : tie.Need-solve-requires
+solve-requires c κs =
+    let t = c .before .before .before .before .before .before .before .before .before .before in
+    let r = t .before .before in
+    let a = r .before .before .before .args in
+    let w = case-accepted (now (a .file)) (r .read-case .result) (r .read-case .ensures) (t .enum-told .given .1) in
+    (case-rows w (λ i. omega (arith, r .before .before .shared-slice-known .given i)), (case-events w, case-formed w))
+
+returns-3 : tie.Need-returns-3
+returns-3 c =
+    let q = c .before .before in
+    let i = q .before .before .before .before .before .before .before .before in
+    let t = i .before .before .before in
+    let r = t .before .before in
+    let a = r .before .before .before .args in
+    let w = case-accepted (now (a .file)) (r .read-case .result) (r .read-case .ensures) (t .enum-told .given .1) in
+    reply-no w (now (a .out)) (i .if1 .left) (q .solve .result) (q .solve .ensures) (not-true _ (c .if2 .taken))
+
+write-list-requires : tie.Need-write-list-requires
+write-list-requires c κs =
+    let i = c .before .before .before .before .before .before .before .before .before .before .before .before in
+    let t = i .before .before .before in
+    let r = t .before .before in
+    let a = r .before .before .before .args in
+    let w = case-accepted (now (a .file)) (r .read-case .result) (r .read-case .ensures) (t .enum-told .given .1) in
+    (case-few w (now (a .out)), i .if1 .left)
 
 same-length : tie.Need-same-length
 same-length c = search needs
 
-returns-2 : tie.Need-returns-2
-returns-2 c =
-    let q = c .before .before in
-    let told = q .before .before .before .before .before .before .before .before .before in
-    let r = told .before .before .before .before in
-    let s = r .before .before in
-    let file = now (s .before .args .file) in
-    let w = case-accepted file (r .read-case .result) (r .read-case .ensures) (told .enum-told .given .1) in
-    let out = now (s .before .args .out) in
-    promise-accepted file out (w .f) (w .read) (q .run-cells .result) _ (case-ran w out (q .run-cells .result) _ (q .run-cells .ensures))
+returns-4 : tie.Need-returns-4
+returns-4 c =
+    let e = c .before .before .before .before .before in
+    let q = e .before .before in
+    let i = q .before .before .before .before .before .before .before .before in
+    let t = i .before .before .before in
+    let r = t .before .before in
+    let a = r .before .before .before .args in
+    let w = case-accepted (now (a .file)) (r .read-case .result) (r .read-case .ensures) (t .enum-told .given .1) in
+    reply-yes w (now (a .out)) (i .if1 .left) (q .solve .result) (q .solve .ensures) (not-false _ (e .if2 .left)) _ (c .before .before .write-list .ensures)
 
 pub run-spec : {M : Type 1} → statement M
 run-spec =
@@ -52,8 +78,11 @@ run-spec =
     (tie.spec
     read-case-requires
     enum-known-verdict
-    enum-told
-    run-cells-requires
     returns
+    enum-told
+    returns-2
+    solve-requires
+    returns-3
+    write-list-requires
     same-length
-    returns-2)
+    returns-4)
