@@ -1,5 +1,5 @@
 -- What each reply says of an accepted file (document 01, "The five questions"), and how a reply lies in a buffer.
--- RightListed, NoneRight: run and list check; EquatedBy, NeverEqual: equating; MarkList: build marks; ReducedTo: reducing; laid, SameButList: the buffer.
+-- FormOf, RightOf, RightListed, NoneRight: run and list check; EquatedBy, NeverEqual: equating; MarkList: build marks; ReducedTo: reducing; laid, SameButList: the buffer.
 use mathlib.Core.Path.{_≡_}
 use mathlib.Core.List.{List, _++_, map}
 use mathlib.Core.Option.{none}
@@ -11,9 +11,17 @@ use Rattle.model.specs.Values.{RightValues, cellOf, Form, RightList, Equ
 use Rattle.model.specs.Reduce.{Reduces}
 use Rattle.model.specs.Format.{readFile, accepted, firstVariable, fileBytes}
 
+-- The list has the form of a value list of the file.
+abbrev pub FormOf : File → List ℕ → Type 0
+FormOf f list = Form (tableOf (f .cells)) (length (f .cells)) list
+
+-- Following the list never comes round, and the values are right.
+abbrev pub RightOf : File → List ℕ → Type 0
+RightOf f list = RightList (tableOf (f .cells)) (runOf (f .events)) (λ v. cellOf (getD list v 0))
+
 -- The list has the form of a value list, and is right.
 abbrev pub RightListed : File → List ℕ → Type 0
-RightListed f list = Form (tableOf (f .cells)) (length (f .cells)) list × RightList (tableOf (f .cells)) (runOf (f .events)) (λ v. cellOf (getD list v 0))
+RightListed f list = FormOf f list × RightOf f list
 
 -- No values are right.
 abbrev pub NoneRight : File → Type 0

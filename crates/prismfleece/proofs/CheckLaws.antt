@@ -9,10 +9,11 @@ use Rattle.model.specs.Case.{File}
 use Rattle.model.specs.Format.{Reading, readFile}
 use Rattle.model.proofs.Finite.{eq?}
 use Rattle.model.proofs.Read.{clash}
-use Rattle.judging.specs.declared.Judged.{Judged}
-use Rattle.judging.specs.declared.Judged.the-variants.{Refused, Wrong, Right}
-use Rattle.judging.specs.Promise.{FormOf, JudgePromise}
-use Rattle.judging.proofs.PromiseLaws.{form?}
+use Rattle.model.specs.Replies.{FormOf}
+use Rattle.checking.specs.declared.Judged.{Judged}
+use Rattle.checking.specs.declared.Judged.the-variants.{Refused, Wrong, Right}
+use Rattle.checking.specs.Promise.{CheckPromise}
+use Rattle.checking.proofs.PromiseLaws.{form?}
 use Rattle.prismfleece.specs.Numbers.{checkNumber}
 use Rattle.prismfleece.proofs.Told.{Told, refusal, small, number, Fits, tells, unread-fits, few, cells-fit}
 
@@ -41,7 +42,7 @@ told-number Right = refl
 pub check-tells : (r r′ : Judged) → Fits (told r) → Fits (told r′) → checkNumber r ≡ checkNumber r′ → r ≡ r′
 check-tells = tells told replyOf back checkNumber told-number
 
-module _ (file list : List ℕ) (reply : Judged) (p : JudgePromise file list reply) where
+module _ (file list : List ℕ) (reply : Judged) (p : CheckPromise file list reply) where
   fits : {r : Judged} → reply ≡ r → Fits (told r) → Fits (told reply)
   fits e h = subst (λ r. Fits (told r)) (sym e) h
 

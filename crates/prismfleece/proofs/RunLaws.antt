@@ -11,9 +11,9 @@ use Rattle.model.specs.Format.{Reading, readFile}
 use Rattle.model.specs.Replies.{RightListed}
 use Rattle.model.proofs.Read.{clash}
 use Rattle.model.proofs.Stored.{laid-front}
-use Rattle.judging.specs.declared.Judged.{Judged}
-use Rattle.judging.specs.declared.Judged.the-variants.{Right}
-use Rattle.judging.specs.Promise.{JudgePromise}
+use Rattle.checking.specs.declared.Judged.{Judged}
+use Rattle.checking.specs.declared.Judged.the-variants.{Right}
+use Rattle.checking.specs.Promise.{CheckPromise}
 use Rattle.running.specs.declared.Solved.{Solved}
 use Rattle.running.specs.declared.Solved.the-variants.{Refused, No, Yes}
 use Rattle.running.specs.Promise.{RunPromise}
@@ -63,7 +63,7 @@ module _ (file before : List ℕ) (reply : Solved) (after : List ℕ) (p : RunPr
       go (Reading.accepted f) e = read f e
 
 -- The list at the front of the buffer is the right list of the promise, so the list check calls it right.
-pub shown-checked : {file before after : List ℕ} {n : ℕ} {judged : Judged} → RunPromise file before (Yes n) after → JudgePromise file (take n after) judged → judged ≡ Right
+pub shown-checked : {file before after : List ℕ} {n : ℕ} {judged : Judged} → RunPromise file before (Yes n) after → CheckPromise file (take n after) judged → judged ≡ Right
 shown-checked {file} {before} {after} {n} {judged} p j = go (readFile file) refl
   where
     go : (x : Reading) → readFile file ≡ x → judged ≡ Right

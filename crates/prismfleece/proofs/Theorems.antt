@@ -10,10 +10,10 @@ use Rattle.building.proofs.Theorems.{build-marks-settled}
 use Rattle.equating.specs.declared.Equated.{Equated}
 use Rattle.equating.specs.Promise.{EquatePromise}
 use Rattle.equating.proofs.Theorems.{equate-settled}
-use Rattle.judging.specs.declared.Judged.{Judged}
-use Rattle.judging.specs.declared.Judged.the-variants.{Right}
-use Rattle.judging.specs.Promise.{JudgePromise}
-use Rattle.judging.proofs.Theorems.{judge-settled}
+use Rattle.checking.specs.declared.Judged.{Judged}
+use Rattle.checking.specs.declared.Judged.the-variants.{Right}
+use Rattle.checking.specs.Promise.{CheckPromise}
+use Rattle.checking.proofs.Theorems.{check-settled}
 use Rattle.reducing.specs.declared.Reduced.{Reduced}
 use Rattle.reducing.specs.Promise.{ReducePromise}
 use Rattle.reducing.proofs.Theorems.{reduce-settled}
@@ -37,7 +37,7 @@ equate-number-one {r = r} {r′ = r′} p p′ = equate-tells r r′ (equate-fit
 pub run-number-one : {file file′ before before′ after after′ : List ℕ} {r r′ : Solved} → RunPromise file before r after → RunPromise file′ before′ r′ after′ → runNumber r ≡ runNumber r′ → r ≡ r′
 run-number-one {r = r} {r′ = r′} p p′ = run-tells r r′ (run-fits _ _ r _ p) (run-fits _ _ r′ _ p′)
 
-pub check-number-one : {file file′ list list′ : List ℕ} {r r′ : Judged} → JudgePromise file list r → JudgePromise file′ list′ r′ → checkNumber r ≡ checkNumber r′ → r ≡ r′
+pub check-number-one : {file file′ list list′ : List ℕ} {r r′ : Judged} → CheckPromise file list r → CheckPromise file′ list′ r′ → checkNumber r ≡ checkNumber r′ → r ≡ r′
 check-number-one {r = r} {r′ = r′} p p′ = check-tells r r′ (check-fits _ _ r p) (check-fits _ _ r′ p′)
 
 pub marks-number-one : {file file′ before before′ after after′ : List ℕ} {r r′ : Marked} → MarksPromise file before r after → MarksPromise file′ before′ r′ after′ → marksNumber r ≡ marksNumber r′ → r ≡ r′
@@ -56,7 +56,7 @@ pub run-number-settled : {file before after after′ : List ℕ} {n n′ : ℕ} 
 run-number-settled (r, p, e) (r′, p′, e′) = let (i, s) = run-settled _ _ r r′ _ _ p p′ in (e ∙ (ap runNumber i ∙ sym e′), s)
 
 pub check-number-settled : {file list : List ℕ} {n n′ : ℕ} → CheckTold file list n → CheckTold file list n′ → n ≡ n′
-check-number-settled (r, p, e) (r′, p′, e′) = e ∙ (ap checkNumber (judge-settled _ _ r r′ p p′) ∙ sym e′)
+check-number-settled (r, p, e) (r′, p′, e′) = e ∙ (ap checkNumber (check-settled _ _ r r′ p p′) ∙ sym e′)
 
 pub marks-number-settled : {file before after after′ : List ℕ} {n n′ : ℕ} → MarksTold file before n after → MarksTold file before n′ after′ → (n ≡ n′) × (after ≡ after′)
 marks-number-settled (r, p, e) (r′, p′, e′) = let (i, s) = build-marks-settled p p′ in (e ∙ (ap marksNumber i ∙ sym e′), s)
@@ -67,5 +67,5 @@ reduce-number-settled (r, p, e) (r′, p′, e′) = let (i, s) = reduce-settled
 -- ---- the run and the list check
 
 -- The list that a run shows is called right by the list check.
-pub run-list-checked : {file before after : List ℕ} {n : ℕ} {judged : Judged} → RunPromise file before (Yes n) after → JudgePromise file (take n after) judged → judged ≡ Right
+pub run-list-checked : {file before after : List ℕ} {n : ℕ} {judged : Judged} → RunPromise file before (Yes n) after → CheckPromise file (take n after) judged → judged ≡ Right
 run-list-checked = shown-checked

@@ -8,9 +8,9 @@ use Rattle.building.specs.Promise.{MarksPromise}
 use Rattle.equating.specs.declared.Equated.{Equated}
 use Rattle.equating.specs.declared.Equated.the-variants as equated
 use Rattle.equating.specs.Promise.{EquatePromise}
-use Rattle.judging.specs.declared.Judged.{Judged}
-use Rattle.judging.specs.declared.Judged.the-variants as judged
-use Rattle.judging.specs.Promise.{JudgePromise}
+use Rattle.checking.specs.declared.Judged.{Judged}
+use Rattle.checking.specs.declared.Judged.the-variants as judged
+use Rattle.checking.specs.Promise.{CheckPromise}
 use Rattle.reducing.specs.declared.Reduced.{Reduced}
 use Rattle.reducing.specs.declared.Reduced.the-variants as reduced
 use Rattle.reducing.specs.Promise.{ReducePromise}
@@ -59,7 +59,7 @@ checkNumber judged.Right = 1
 
 -- The number r is that of a reply that keeps the promise of the list check.
 abbrev pub CheckTold : List ℕ → List ℕ → ℕ → Type 0
-CheckTold file list r = (reply : Judged) × JudgePromise file list reply × (r ≡ checkNumber reply)
+CheckTold file list r = (reply : Judged) × CheckPromise file list reply × (r ≡ checkNumber reply)
 
 -- Reducing.
 abbrev pub reduceNumber : Reduced → ℕ

@@ -1,8 +1,8 @@
 // The face for callers in C and Rust: each question as an exported function whose reply is one number.
 // A refusal is number * 2^32 + place; "no" and "wrong" are 0; "right" is 1; every other reply is 1 + the bytes written.
 use building::Marked;
+use checking::Judged;
 use equating::Equated;
-use judging::Judged;
 use reducing::Reduced;
 use running::Solved;
 ghost use mathlib.Core.Path.{_≡_};
@@ -48,7 +48,7 @@ pub extern "C" fn prismfleece_run(file: &[u8], out: &mut [u8]) -> u64
 pub extern "C" fn prismfleece_check(file: &[u8], list: &[u8]) -> u64
     ensures { λ r. ⌜ CheckTold (now (file .entry)) (now (list .entry)) r ⌝ }
 {
-    let reply = judging::judge(file, list);
+    let reply = checking::check(file, list);
     match reply {
         Judged::Refused(number, place) => refusal(number, place),
         Judged::Wrong => 0,

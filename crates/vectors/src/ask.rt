@@ -9,8 +9,8 @@ use crate::print::print_refused;
 use building::Marked;
 use casefile::Found;
 use casefile::events::Verdict;
+use checking::Judged;
 use equating::Equated;
-use judging::Judged;
 use reducing::Reduced;
 use running::Solved;
 
@@ -116,7 +116,7 @@ fn print_run(file: &[u8], out: &[u8], n: usize) {
     if n > out.len() {
         return;
     }
-    let judged = judging::judge(file, &out[..n]);
+    let judged = checking::check(file, &out[..n]);
     match judged {
         Judged::Right => print(b"yes\n"),
         Judged::Wrong => print(b"yes, and the list is wrong\n"),
@@ -126,7 +126,7 @@ fn print_run(file: &[u8], out: &[u8], n: usize) {
 
 // l: the list check
 fn ask_list(list: &[u8], file: &[u8]) {
-    let judged = judging::judge(file, list);
+    let judged = checking::check(file, list);
     match judged {
         Judged::Right => print(b"right\n"),
         Judged::Wrong => print(b"wrong\n"),

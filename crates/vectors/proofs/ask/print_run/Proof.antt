@@ -9,12 +9,12 @@ use Rattle.vectors.proofs.ask.print_run.Tie as tie
 returns : tie.Need-returns
 returns c = search needs
 
-slice-aggregate-judge : tie.Need-slice-aggregate-judge
-slice-aggregate-judge c =
+slice-aggregate-check : tie.Need-slice-aggregate-check
+slice-aggregate-check c =
     sym (length-take-le (c .before .before .before .before .args .n) (c .before .before .before .before .args .out .now) (omega arith))
 
-judge-requires : tie.Need-judge-requires
-judge-requires c κs = search needs
+check-requires : tie.Need-check-requires
+check-requires c κs = search needs
 
 enum-told : tie.Need-enum-told
 enum-told c = search needs
@@ -57,8 +57,8 @@ print-run-spec =
     tie.close
     (tie.spec
     returns
-    slice-aggregate-judge
-    judge-requires
+    slice-aggregate-check
+    check-requires
     enum-told
     slice-aggregate-print
     print-requires
