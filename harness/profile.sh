@@ -2,20 +2,23 @@
 # Where the instructions of the library's run go, one line for each family: of its middle case by instructions, or with --sums of all its cases
 # together. Needs valgrind, whose callgrind counts the same on every run, and the harness built over the library (README.md). callgrind takes about
 # 50 times as long as the run itself; a case that takes it more than the limit is left out and named at the end. Without FAMILY: all families.
+# With --growth: instructions of the other questions at 16, 32, 64 and 128 cells, and how much the last doubling costs.
 #   ./profile.sh [--sums] [--limit SECONDS (60)] [FAMILY...]
+#   ./profile.sh --growth
 set -euo pipefail
 cd "$(dirname "$0")"
-sums=no limit=60
+sums=no growth=no limit=60
 while [[ "${1:-}" == --* ]]; do
     case "$1" in
         --sums) sums=yes ;;
+        --growth) growth=yes ;;
         --limit) limit=$2; shift ;;
         *) echo "$1: not understood" >&2; exit 2 ;;
     esac
     shift
 done
 [ $# -gt 0 ] || set -- ""
-for name in prismfleece_run casefile::read_case classes::start classes::settle solving::search::search; do
+for name in prismfleece_run casefile::read_case classes::twins::start classes::closing::settle solving::search::search; do
     grep -qaF "$name" target/release/bench || { echo "target/release/bench has no function $name of its own: build it over libprismfleece.a" >&2; exit 1; }
 done
 work=$(mktemp -d)
@@ -31,8 +34,8 @@ counts() {
         /^[0-9+*-]/ { if (from ~ /memcpy/) copying += $2 }
         END {
             search = "solving::search::search"
-            printf "%.0f %.0f %.0f %.0f %.0f %d %d", whole, below["casefile::read_case"], below["classes::start"], below[search], copying,
-                calls[search], calls["classes::settle"]
+            printf "%.0f %.0f %.0f %.0f %.0f %d %d", whole, below["casefile::read_case"], below["classes::twins::start"], below[search], copying,
+                calls[search], calls["classes::closing::settle"]
         }' "$1"
 }
 
@@ -71,6 +74,27 @@ together() {
         { whole += $1; steps += $6; unifications += $7 }
         END { printf "| %s | %d | %.0f | %d | %d |\n", family, NR, whole / 1000, steps, unifications }'
 }
+
+# The instructions of one call of a question, a shape and a number of cells.
+call() {
+    valgrind -q --tool=callgrind --toggle-collect=collected --callgrind-out-file="$work/calls" ./target/release/bench --call "$1"
+    awk '/^summary:/ { print $2 }' "$work/calls"
+}
+
+if [ "$growth" = yes ]; then
+    echo "| question | shape | 16 cells | 32 cells | 64 cells | 128 cells | growth |"
+    echo "|---|---|---|---|---|---|---|"
+    ./target/release/bench --only calls | while read -r question shape; do
+        counts=()
+        for cells in 16 32 64 128; do counts+=("$(call "$question $shape $cells")"); done
+        awk -v line="| $question | $shape" -v counts="${counts[*]}" 'BEGIN {
+            split(counts, n, " ")
+            for (i = 1; i <= 4; i++) line = line " | " n[i]
+            printf "%s | %.1f |\n", line, n[4] / n[3]
+        }'
+    done
+    exit
+fi
 
 for wanted; do
     ./target/release/bench --only list ${wanted:+--family "$wanted"}

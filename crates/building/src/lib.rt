@@ -22,7 +22,7 @@ fn lay_marks<'a>(n: usize, rep: &'a [u8; 129], built: &'a [u8; 129], out: &mut [
 {
     let mut c: usize = 0;
     while c < n {
-        let z = knowledge::class_of(rep, c);
+        let z = classes::class_of(rep, c);
         out[c] = built[z];
         c += 1;
     }
@@ -41,21 +41,13 @@ pub fn build_marks(file: &[u8], out: &mut [u8]) -> Marked
     if let Found::At(at) = variable {
         return Marked::Refused(8, at);
     }
-    let t = case.table;
-    let e = case.events;
-    let n = t.cells;
+    let table = case.table;
+    let run = case.run;
+    let n = table.count;
     if out.len() < n {
         return Marked::Refused(9, n);
     }
-    let k = knowledge::heard::open_heard(
-        &t.kind,
-        &t.first,
-        &t.second,
-        n,
-        &e.kind,
-        &e.cell,
-        e.count,
-    );
+    let k = knowledge::heard::open_heard(&table.words, n, &run.words, run.count);
     let rep = k.rep;
     let built = k.built;
     lay_marks(n, &rep, &built, out);

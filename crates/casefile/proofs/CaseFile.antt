@@ -1,4 +1,4 @@
--- From the reader's reply back to the file: what the callers of `read_case` know of its rows.
+-- From the reader's reply back to the file: what the callers of `read_case` know of its words.
 use mathlib.Core.Path.{_≡_, refl, sym, _∙_, ap, subst, fun-ext}
 use mathlib.Core.List.{List}
 use mathlib.Core.Option.{Option, some, none}
@@ -6,25 +6,22 @@ use Prim.Native.Nat.{ℕ}
 use lib.ListN.{length}
 use Rattle.model.specs.Case.{File, tableOf, runOf}
 use Rattle.model.specs.Format.{Reading, readFile, firstVariable}
-use Rattle.model.specs.Stored.{tableAt, runAt}
+use Rattle.model.specs.Stored.{wordOf, eventWord, tableIn, runIn}
 use Rattle.model.proofs.Read.{clash}
 use Rattle.model.proofs.Accepted.{Bytes}
-use Rattle.model.proofs.Rows.{table-rows, run-rows}
-use Rattle.theory.specs.Cells.{Rows, EventRows}
-use Rattle.theory.proofs.Rows.{accepted-rows, accepted-events}
+use Rattle.theory.specs.Cells.{TableWords, RunWords}
+use Rattle.theory.proofs.Rows.{accepted-table, accepted-words, accepted-run, accepted-events}
 use Rattle.casefile.specs.declared.Case.{Case}
 use Rattle.casefile.specs.declared.Found.the-variants as found
 use Rattle.casefile.specs.declared.events.Verdict.the-variants as verdict
-use Rattle.casefile.specs.Cells.{stored}
-use Rattle.casefile.specs.Events.{storedEvents}
-use Rattle.casefile.specs.Case.{caseOf, foundAt}
+use Rattle.casefile.specs.Case.{stored, caseOf, foundAt}
 
 -- The reply is that to the accepted file f.
 pub record CaseFile (file : List ℕ) (r : Case) : Type 0 where
   pub f : File
   pub read : readFile file ≡ Reading.accepted f
-  pub table : r .table ≡ stored (f .cells)
-  pub events : r .events ≡ storedEvents (f .events)
+  pub table : r .table ≡ stored wordOf (f .cells)
+  pub run : r .run ≡ stored eventWord (f .events)
   pub variable : r .variable ≡ foundAt (firstVariable (f .cells))
 
 module _ (file : List ℕ) (r : Case) (reply : r ≡ caseOf (readFile file)) where
@@ -47,7 +44,7 @@ module _ (file : List ℕ) (r : Case) (reply : r ≡ caseOf (readFile file)) whe
         f = f;
         read = e;
         table = ap (λ (u : Case). u .table) (replied e);
-        events = ap (λ (u : Case). u .events) (replied e);
+        run = ap (λ (u : Case). u .run) (replied e);
         variable = ap (λ (u : Case). u .variable) (replied e);
       }
 
@@ -66,20 +63,20 @@ module _ {file : List ℕ} {r : Case} (w : CaseFile file r) where
   pub case-free : r .variable ≡ found.Nowhere → firstVariable (w .f .cells) ≡ none
   case-free e = found-none (firstVariable (w .f .cells)) (sym (w .variable) ∙ e)
 
-  -- The rows of the reply keep what the rows of a file keep,
-  pub case-rows : Bytes file → Rows (r .table .cells) (r .table .kind) (r .table .first) (r .table .second)
-  case-rows b = subst (λ t. Rows (t .cells) (t .kind) (t .first) (t .second)) (sym (w .table)) (accepted-rows file (w .f) b (w .read))
+  -- The words of the reply keep what the words of a file keep,
+  pub case-words : Bytes file → TableWords (r .table .count) (r .table .words)
+  case-words b = subst (λ t. TableWords (t .count) (t .words)) (sym (w .table)) (accepted-words file (w .f) b (w .read))
 
-  pub case-events : EventRows (r .table .cells) (r .events .cell) (r .events .count)
-  case-events = subst (λ t. EventRows (t .cells) (r .events .cell) (r .events .count)) (sym (w .table))
-      (subst (λ e. EventRows (length (w .f .cells)) (e .cell) (e .count)) (sym (w .events)) (accepted-events file (w .f) (w .read)))
+  pub case-events : RunWords (r .table .count) (r .run .words) (r .run .count)
+  case-events = subst (λ t. RunWords (t .count) (r .run .words) (r .run .count)) (sym (w .table))
+      (subst (λ e. RunWords (length (w .f .cells)) (e .words) (e .count)) (sym (w .run)) (accepted-events file (w .f) (w .read)))
 
   -- and what lies in them is the file's.
-  pub case-count : r .table .cells ≡ length (w .f .cells)
-  case-count = ap (λ t. t .cells) (w .table)
+  pub case-count : r .table .count ≡ length (w .f .cells)
+  case-count = ap (λ t. t .count) (w .table)
 
-  pub case-table : tableAt (r .table .kind) (r .table .first) (r .table .second) ≡ tableOf (w .f .cells)
-  case-table = ap (λ t. tableAt (t .kind) (t .first) (t .second)) (w .table) ∙ fun-ext (table-rows (w .f .cells))
+  pub case-table : Bytes file → tableIn (r .table .words) ≡ tableOf (w .f .cells)
+  case-table b = ap (λ t. tableIn (t .words)) (w .table) ∙ fun-ext (accepted-table file (w .f) b (w .read))
 
-  pub case-run : runAt (r .events .count) (r .events .kind) (r .events .cell) ≡ runOf (w .f .events)
-  case-run = ap (λ e. runAt (e .count) (e .kind) (e .cell)) (w .events) ∙ fun-ext (run-rows (w .f .events))
+  pub case-run : runIn (r .run .count) (r .run .words) ≡ runOf (w .f .events)
+  case-run = ap (λ e. runIn (e .count) (e .words)) (w .run) ∙ fun-ext (accepted-run file (w .f) (w .read))

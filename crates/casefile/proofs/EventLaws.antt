@@ -2,28 +2,26 @@
 use mathlib.Core.Path.{_≡_, refl, sym, _∙_, ap, subst}
 use mathlib.Core.Bool.{Bool, true, false, cond}
 use mathlib.Core.List.{List, [], _∷_}
-use mathlib.Core.Option.{some}
-use Prim.Native.Nat.{ℕ, _+_, _≤_, _<_}
+use Prim.Native.Nat.{ℕ, _≤_, _<_}
 use native.Mathlib.Omega.{arith}
-use borrow.Author.Tests.{le-ltb, ltb-true, ltb-false}
-use lib.Dec.{ltb, leb}
-use lib.ListN.{length, getD}
+use borrow.Author.Tests.{leb-true, leb-false}
+use lib.Dec.{leb}
+use lib.ListN.{length}
 use Rattle.model.specs.Case as case
 use Rattle.model.specs.Stored.{aim}
-use Rattle.model.specs.Format.{Kind, kindOf, isCell, isEvent, width, recordAt, Record, anyOf, late, tooMany, outside, loose, check, checkKind, Checked}
-use Rattle.model.proofs.Pick.{yes, into, no}
+use Rattle.model.specs.Format.{Kind, isCell, isEvent, width, recordAt, Record, anyOf, numbers, late, tooMany, outside, loose, check, Checked}
+use Rattle.model.proofs.Pick.{into, no}
 use Rattle.model.proofs.Read.{clash}
-use Rattle.casefile.specs.declared.record.Mark.{Mark}
-use Rattle.casefile.specs.declared.record.Mark.the-variants as mark
-use Rattle.casefile.specs.declared.record.Record.{Record as Rec}
-use Rattle.casefile.specs.declared.record.Fields.the-variants as fields
-use Rattle.casefile.specs.declared.cells.Section.the-variants as section
+use Rattle.cells.specs.Cells.{asEvent}
+use Rattle.cells.specs.declared.Event.{Event}
+use Rattle.casefile.specs.declared.record.Said.{Said}
+use Rattle.casefile.specs.declared.record.Said.the-variants as said
+use Rattle.casefile.specs.declared.rest.EventStep.{EventStep}
 use Rattle.casefile.specs.declared.rest.EventStep.the-variants as step
-use Rattle.casefile.specs.Record.{asMark, markAt, widthOf, recordFor, fieldsAt}
-use Rattle.casefile.specs.Cells.{sectionOf}
-use Rattle.casefile.specs.Events.{endMark, eventFor, belowCells, Among, Found, Ended, eventSays}
-use Rattle.casefile.proofs.CellLaws.{mark-cells, width-mark, fields-short, fields-long}
-use Rattle.casefile.proofs.TestLaws.{Means, cut, unknown, known, means, check-kind, test-full, test-cut, test-outside, test-inside, outside-none, outside-in, outside-here}
+use Rattle.casefile.specs.Record.{saidAs, Marked, Stands, Short}
+use Rattle.casefile.specs.Events.{Among, Found, Ended, eventStep, eventSays}
+use Rattle.casefile.proofs.RecordLaws.{stands-cell, stands-event, stands-size}
+use Rattle.casefile.proofs.TestLaws.{test-late, test-full, test-short, test-outside, test-inside}
 
 -- A cell record after an event is late; before the first event no cell record stands.
 late-true : (es : List case.Event) (k : Kind) → isCell k ≡ true → (es ≡ [] → ⊥) → late es k ≡ true
@@ -34,160 +32,97 @@ late-false : (es : List case.Event) (k : Kind) → isCell k ≡ false → late e
 late-false [] k e = refl
 late-false (x ∷ es) k e = e
 
-pub says-late : (rest : List ℕ) (cells n : ℕ) (m : Mark) → m ≡ markAt rest → sectionOf m ≡ section.Cells → (f : case.File) → Among rest f cells n → check rest f ≡ Checked.fault 3
-unfolding checkKind
-says-late rest cells n m e s f a =
-    let g = mark-cells rest m e s in
-    check-kind rest f (some (g .tag)) (g .whole) (g .found) ∙ sym (yes _ (late-true (f .events) (g .tag) (g .is) (λ z.
-    let b = a .begun z in let i : g .tag ≡ b .tag = cc (g .found, b .found) in clash (cc (g .is, b .event, ap isCell i)))))
+-- Only an event can be short of its fields, if it is no cell.
+short-event : (k : Kind) → isCell k ≡ false → 0 < width k → isEvent k ≡ true
+short-event Kind.Atom e h = clash (cc)
+short-event Kind.Variable e h = clash (cc)
+short-event Kind.Pair e h = clash (cc)
+short-event Kind.Seal e h = clash (cc)
+short-event Kind.Apply e h = clash (cc)
+short-event Kind.Make e h = refl
+short-event Kind.Learn e h = refl
+short-event Kind.End e h = absurd (omega arith)
 
--- A mark of the events is that of MK, LN or EN.
-pub record EventKind (rest : List ℕ) (m : Mark) : Type 0 where
-  pub tag : Kind
-  pub found : kindOf rest ≡ some tag
-  pub marked : m ≡ asMark (some tag)
-  pub is : isCell tag ≡ false
-  pub whole : 2 ≤ length rest
-
-events-kind : (rest : List ℕ) (m : Mark) → Means rest m → sectionOf m ≡ section.Events → EventKind rest m
-events-kind rest m (cut h) e = clash (cc)
-events-kind rest m (unknown h k) e = clash (cc)
-events-kind rest m (known Kind.Atom h k) e = clash (cc)
-events-kind rest m (known Kind.Variable h k) e = clash (cc)
-events-kind rest m (known Kind.Pair h k) e = clash (cc)
-events-kind rest m (known Kind.Seal h k) e = clash (cc)
-events-kind rest m (known Kind.Apply h k) e = clash (cc)
-events-kind rest m (known Kind.Make h k) e = record { tag = Kind.Make; found = k; marked = refl; is = refl; whole = h }
-events-kind rest m (known Kind.Learn h k) e = record { tag = Kind.Learn; found = k; marked = refl; is = refl; whole = h }
-events-kind rest m (known Kind.End h k) e = record { tag = Kind.End; found = k; marked = refl; is = refl; whole = h }
-
--- The tests of an event record, in the paper's order.
-module _ (rest : List ℕ) (f : case.File) (count n : ℕ) (k : Kind) (a : Among rest f count n) (found : kindOf rest ≡ some k) (h : 2 ≤ length rest) (is : isCell k ≡ false) where
+-- A record of no cell is early, and of an event the count is tested.
+module _ (f : case.File) (k : Kind) (is : isCell k ≡ false) where
   early : late (f .events) k ≡ false
   early = late-false (f .events) k is
 
-  module _ (event : isEvent k ≡ true) where
-    many : tooMany f k ≡ leb 128 n
-    many = sym (no _ is (into _ event (ap (leb 128) (sym (a .events)))))
+  many : (n : ℕ) → length (f .events) ≡ n → isEvent k ≡ true → tooMany f k ≡ leb 128 n
+  many n e event = sym (no _ is (into _ event (ap (leb 128) (sym e))))
 
-    pub event-full : 128 ≤ n → check rest f ≡ Checked.fault 4
-    event-full = test-full rest f n k found h early many
+  none : isEvent k ≡ false → tooMany f k ≡ leb 128 0
+  none event = sym (no _ is (no _ event refl))
 
-    module _ (room : n < 128) where
-      pub event-cut : length rest < 2 + width k → check rest f ≡ Checked.fault 1
-      event-cut = test-cut rest f n k found h early many room
+aim-number : (v : case.Event) → aim v ∷ [] ≡ numbers (Record.event v)
+aim-number (case.MK c) = refl
+aim-number (case.LN c) = refl
 
-      module _ (whole : 2 + width k ≤ length rest) where
-        pub event-outside : outside f (recordAt rest k) ≡ true → check rest f ≡ Checked.fault 5
-        event-outside = test-outside rest f n k found h early many room whole
+last : (t : Bool) → cond t true false ≡ t
+last true = refl
+last false = refl
 
-        pub event-inside : outside f (recordAt rest k) ≡ false → check rest f ≡ cond (loose f (recordAt rest k)) (Checked.fault 6) (Checked.sound k)
-        event-inside = test-inside rest f n k found h early many room whole
+module _ (rest : List ℕ) (count n : ℕ) where
+  late-cell : (k : Kind) → Marked rest k → isCell k ≡ true → (f : case.File) → Among rest f count n → check rest f ≡ Checked.fault 3
+  late-cell k g is f a = test-late rest f k g (late-true (f .events) k is (λ z.
+      let b = a .begun z in
+      let i : k ≡ b .tag = cc (g .found, b .marked .found) in
+      clash (cc (is, b .event, ap isCell i))))
 
-  pub end-sound : k ≡ Kind.End → check rest f ≡ Checked.sound Kind.End
-  unfolding checkKind anyOf
-  end-sound e = check-kind rest f (some k) h found ∙ (ap (λ k. checkKind rest f (some k)) e ∙ sym (no _ (late-false (f .events) Kind.End refl) (no _ (le-ltb (length rest) 2 h) refl)))
+  pub says-late : {c : case.Cell} → Stands rest (Record.cell c) → (f : case.File) → Among rest f count n → check rest f ≡ Checked.fault 3
+  says-late w = late-cell (w .tag) (w .marked) (stands-cell w)
 
--- What the reader's steps give, from the mark on.
-module _ (rest : List ℕ) (count n : ℕ) (m : Mark) (e : m ≡ markAt rest) (s : sectionOf m ≡ section.Events) where
-  g : EventKind rest m
-  g = events-kind rest m (subst (Means rest) (sym e) (means rest)) s
+  pub short-late : Short rest true → (f : case.File) → Among rest f count n → check rest f ≡ Checked.fault 3
+  short-late w = late-cell (w .tag) (w .marked) (w .is)
 
-  pub event-room : 2 ≤ length rest
-  event-room = g .whole
+  pub says-short : {x : ℕ} → Short rest false → x ≡ cond (leb 128 n) 4 1 → (f : case.File) → Among rest f count n → check rest f ≡ Checked.fault x
+  says-short w e f a =
+      let s = w .short in
+      let h = w .marked .whole in
+      test-short rest f (w .tag) (w .marked) n (early f (w .tag) (w .is)) (many f (w .tag) (w .is) n (a .events) (short-event (w .tag) (w .is) (omega arith))) (w .short) ∙ ap Checked.fault (sym e)
 
-  widths : widthOf m ≡ width (g .tag)
-  widths = ap widthOf (g .marked) ∙ width-mark (g .tag)
-
-  ends : (k : Kind) → isCell k ≡ false → endMark (asMark (some k)) ≡ true → k ≡ Kind.End
-  ends Kind.Atom i e = clash (cc)
-  ends Kind.Variable i e = clash (cc)
-  ends Kind.Pair i e = clash (cc)
-  ends Kind.Seal i e = clash (cc)
-  ends Kind.Apply i e = clash (cc)
-  ends Kind.Make i e = clash (cc)
-  ends Kind.Learn i e = clash (cc)
-  ends Kind.End i e = refl
-
-  pub says-end : true ≡ endMark m → Ended rest count n
-  says-end t = record {
-    whole = g .whole;
-    sound = λ f a. end-sound rest f count n (g .tag) a (g .found) (g .whole) (g .is) (ends (g .tag) (g .is) (ap endMark (sym (g .marked)) ∙ sym t));
+  pub says-end : Stands rest Record.end → Ended rest count n
+  unfolding anyOf
+  says-end w = record {
+    tag = w .tag;
+    says = w .says;
+    whole = w .marked .whole;
+    sound = λ f a. test-inside rest f (w .tag) (w .marked) 0 (early f (w .tag) (stands-cell w)) (none f (w .tag) (stands-cell w) (stands-event w)) (omega arith) (w .whole) (ap (outside f) (w .says))
+        ∙ ap (λ r. cond (loose f r) (Checked.fault 6) (Checked.sound (w .tag))) (w .says);
   }
 
-  module _ (t : false ≡ endMark m) where
-    goes-on : (k : Kind) → isCell k ≡ false → endMark (asMark (some k)) ≡ false → (isEvent k ≡ true) × (2 + width k ≡ 3)
-    goes-on Kind.Atom i e = clash (cc)
-    goes-on Kind.Variable i e = clash (cc)
-    goes-on Kind.Pair i e = clash (cc)
-    goes-on Kind.Seal i e = clash (cc)
-    goes-on Kind.Apply i e = clash (cc)
-    goes-on Kind.Make i e = (refl, refl)
-    goes-on Kind.Learn i e = (refl, refl)
-    goes-on Kind.End i e = clash (cc)
+  -- A whole record of the event v.
+  module _ {v : case.Event} (w : Stands rest (Record.event v)) where
+    outside-is : (f : case.File) → Among rest f count n → {t : Bool} → leb count (aim v) ≡ t → outside f (recordAt rest (w .tag)) ≡ t
+    unfolding anyOf
+    outside-is f a e = ap (outside f) (w .says) ∙ (ap (anyOf (leb (length (f .cells)))) (sym (aim-number v)) ∙ (ap (λ x. anyOf (leb x) (aim v ∷ [])) (a .cells) ∙ (last (leb count (aim v)) ∙ e)))
 
-    event : (isEvent (g .tag) ≡ true) × (2 + width (g .tag) ≡ 3)
-    event = goes-on (g .tag) (g .is) (ap endMark (sym (g .marked)) ∙ sym t)
-
-    pub says-many : 128 ≤ n → (f : case.File) → Among rest f count n → check rest f ≡ Checked.fault 4
-    says-many full f a = event-full rest f count n (g .tag) a (g .found) (g .whole) (g .is) (event .0) full
+    says-many : 128 ≤ n → (f : case.File) → Among rest f count n → check rest f ≡ Checked.fault 4
+    says-many full f a = test-full rest f (w .tag) (w .marked) n (early f (w .tag) (stands-cell w)) (many f (w .tag) (stands-cell w) n (a .events) (stands-event w)) full
 
     module _ (room : n < 128) where
-      pub says-short : fieldsAt rest m ≡ fields.Cut → (f : case.File) → Among rest f count n → check rest f ≡ Checked.fault 1
-      says-short short f a = (let l = fields-short rest m short in let w = widths in
-          event-cut rest f count n (g .tag) a (g .found) (g .whole) (g .is) (event .0) room (omega arith))
+      says-outside : leb count (aim v) ≡ true → (f : case.File) → Among rest f count n → check rest f ≡ Checked.fault 5
+      says-outside out f a = test-outside rest f (w .tag) (w .marked) n (early f (w .tag) (stands-cell w)) (many f (w .tag) (stands-cell w) n (a .events) (stands-event w)) room (w .whole) (outside-is f a out)
 
-      module _ (whole : 2 + width (g .tag) ≤ length rest) where
-        x : ℕ
-        x = getD rest 2 0
+      says-found : leb count (aim v) ≡ false → Found rest count n v
+      says-found inn = record {
+        tag = w .tag;
+        says = w .says;
+        size = stands-size w;
+        whole = (let s = stands-size w in let h = w .whole in omega arith);
+        room = room;
+        below = leb-false count (aim v) inn;
+        tested = λ f a. test-inside rest f (w .tag) (w .marked) n (early f (w .tag) (stands-cell w)) (many f (w .tag) (stands-cell w) n (a .events) (stands-event w)) room (w .whole) (outside-is f a inn)
+            ∙ ap (λ r. cond (loose f r) (Checked.fault 6) (Checked.sound (w .tag))) (w .says);
+      }
 
-        -- The event v, whose cell is x, by whether x is below the cell count.
-        in-range : (v : case.Event) → recordAt rest (g .tag) ≡ Record.event v → aim v < count → Found rest count n v
-        in-range v r below = record {
-          tag = g .tag;
-          says = r;
-          size = event .1;
-          whole = let z = event .1 in omega arith;
-          room = room;
-          below = below;
-          tested = λ f a. event-inside rest f count n (g .tag) a (g .found) (g .whole) (g .is) (event .0) room whole (subst (λ r. outside f r ≡ false) (sym r) (inside f a v below))
-              ∙ ap (λ r. cond (loose f r) (Checked.fault 6) (Checked.sound (g .tag))) r;
-        }
-          where
-            inside : (f : case.File) → Among rest f count n → (v : case.Event) → aim v < count → outside f (Record.event v) ≡ false
-            inside f a (case.MK c) b = outside-in (length (f .cells)) c [] (let z = a .cells in omega arith) (outside-none (length (f .cells)))
-            inside f a (case.LN c) b = outside-in (length (f .cells)) c [] (let z = a .cells in omega arith) (outside-none (length (f .cells)))
+pub says-event : {rest : List ℕ} (count n : ℕ) {s : Said} {e : Event} {r : EventStep} → Stands rest (saidAs s) → s ≡ said.Event e → r ≡ eventStep e count n → eventSays rest count n r
+says-event {rest} count n {s} {e} w told i = subst (eventSays rest count n) (sym i) (go (leb 128 n) (leb count (aim (asEvent e))) refl refl)
+  where
+    w′ : Stands rest (Record.event (asEvent e))
+    w′ = subst (λ s. Stands rest (saidAs s)) told w
 
-        out-range : (v : case.Event) → recordAt rest (g .tag) ≡ Record.event v → count ≤ aim v → (f : case.File) → Among rest f count n → check rest f ≡ Checked.fault 5
-        out-range v r above f a = event-outside rest f count n (g .tag) a (g .found) (g .whole) (g .is) (event .0) room whole (subst (λ r. outside f r ≡ true) (sym r) (out v above))
-          where
-            out : (v : case.Event) → count ≤ aim v → outside f (Record.event v) ≡ true
-            out (case.MK c) b = outside-here (length (f .cells)) c [] (let z = a .cells in omega arith)
-            out (case.LN c) b = outside-here (length (f .cells)) c [] (let z = a .cells in omega arith)
-
-        make-says : (c : ℕ) → recordAt rest (g .tag) ≡ Record.event (case.MK c) → (t : Bool) → ltb c count ≡ t → eventSays rest count n (cond t (step.Make c) (step.Refused 5))
-        make-says c r true i = in-range (case.MK c) r (ltb-true c count i)
-        make-says c r false i = out-range (case.MK c) r (ltb-false c count i)
-
-        learn-says : (c : ℕ) → recordAt rest (g .tag) ≡ Record.event (case.LN c) → (t : Bool) → ltb c count ≡ t → eventSays rest count n (cond t (step.Learn c) (step.Refused 5))
-        learn-says c r true i = in-range (case.LN c) r (ltb-true c count i)
-        learn-says c r false i = out-range (case.LN c) r (ltb-false c count i)
-
-        by-kind : (k : Kind) → isEvent k ≡ true → recordAt rest (g .tag) ≡ recordAt rest k → eventSays rest count n (belowCells (eventFor (recordFor (asMark (some k)) (getD rest 2 0) (getD rest 3 0))) count)
-        by-kind Kind.Atom i r = clash (cc)
-        by-kind Kind.Variable i r = clash (cc)
-        by-kind Kind.Pair i r = clash (cc)
-        by-kind Kind.Seal i r = clash (cc)
-        by-kind Kind.Apply i r = clash (cc)
-        by-kind Kind.Make i r = make-says (getD rest 2 0) r (ltb (getD rest 2 0) count) refl
-        by-kind Kind.Learn i r = learn-says (getD rest 2 0) r (ltb (getD rest 2 0) count) refl
-        by-kind Kind.End i r = clash (cc)
-
-        found-says : eventSays rest count n (belowCells (eventFor (recordFor m (getD rest 2 0) (getD rest 3 0))) count)
-        found-says = subst (λ y. eventSays rest count n (belowCells (eventFor (recordFor y (getD rest 2 0) (getD rest 3 0))) count)) (sym (g .marked)) (by-kind (g .tag) (event .0) refl)
-
-      pub says-event : (r : Rec) → fieldsAt rest m ≡ fields.Whole r → eventSays rest count n (belowCells (eventFor r) count)
-      says-event r long =
-          let (l, i) = fields-long rest m r long in
-          let w = widths in
-          subst (λ r. eventSays rest count n (belowCells (eventFor r) count)) (sym i) (found-says (omega arith))
+    go : (x y : Bool) → leb 128 n ≡ x → leb count (aim (asEvent e)) ≡ y → eventSays rest count n (cond x (step.Refused 4) (cond y (step.Refused 5) (step.Next e)))
+    go true y i j = says-many rest count n w′ (leb-true 128 n i)
+    go false true i j = says-outside rest count n w′ (leb-false 128 n i) j
+    go false false i j = says-found rest count n w′ (leb-false 128 n i) j

@@ -1,4 +1,4 @@
--- One record read by the definition, and the rows of a list with one element more.
+-- One record read by the definition, and the words of a list with one element more.
 use mathlib.Core.Path.{_≡_, refl, sym, _∙_, ap, ap₂}
 use mathlib.Core.List.{List, [], _∷_, _++_, map, append-assoc}
 use Prim.Native.Nat.{ℕ, suc, _+_, _-_, _<_}
@@ -10,6 +10,7 @@ use Rattle.model.specs.Stored.{row}
 use Rattle.model.proofs.Fuel.{Few, read-step}
 use Rattle.model.proofs.Listed.{length-snoc}
 use Rattle.model.specs.Format.{Kind, width, recordAt, Record, check, Checked, Reading, after, behind, readFrom, ended}
+use Rattle.casefile.specs.Case.{stored, withWord}
 
 -- Every file read so far that has room goes on in the same way: 257 records are enough from anywhere.
 module _ (file : List ℕ) (at : ℕ) (f : File) (few : Few f) where
@@ -39,18 +40,21 @@ module _ (file : List ℕ) (at : ℕ) (f : File) (few : Few f) where
     pub read-end : recordAt rest k ≡ Record.end → readFrom 257 rest at f ≡ ended rest at f
     read-end r = go-on (2 + width k) Record.end refl r
 
--- One element more in a row.
-map-more : {A : Type 0} (byte : A → ℕ) (xs : List A) (x : A) → map byte (xs ++ (x ∷ [])) ≡ map byte xs ++ (byte x ∷ [])
-map-more byte [] x = refl
-map-more byte (y ∷ xs) x = ap (_∷_ (byte y)) (map-more byte xs x)
+-- One element more.
+map-more : {A : Type 0} (word : A → ℕ) (xs : List A) (x : A) → map word (xs ++ (x ∷ [])) ≡ map word xs ++ (word x ∷ [])
+map-more word [] x = refl
+map-more word (y ∷ xs) x = ap (_∷_ (word y)) (map-more word xs x)
 
-pub row-more : {A : Type 0} (byte : A → ℕ) (xs : List A) (x : A) → length xs < 128 → set (row byte xs) (length xs) (byte x) ≡ row byte (xs ++ (x ∷ []))
-row-more byte xs x h =
-    ap (λ n. set (map byte xs ++ replicate n 0) (length xs) (byte x)) left
-    ∙ (set-at (map byte xs) 0 (replicate (128 - (length xs + 1)) 0) (byte x) (length xs) (length-map xs byte)
-    ∙ (sym (append-assoc (map byte xs) (byte x ∷ []) (replicate (128 - (length xs + 1)) 0))
-    ∙ (ap (λ l. l ++ replicate (128 - (length xs + 1)) 0) (sym (map-more byte xs x))
-    ∙ ap (λ n. map byte (xs ++ (x ∷ [])) ++ replicate (128 - n) 0) (sym (length-snoc xs x)))))
+row-more : {A : Type 0} (word : A → ℕ) (xs : List A) (x : A) → length xs < 128 → set (row word xs) (length xs) (word x) ≡ row word (xs ++ (x ∷ []))
+row-more word xs x h =
+    ap (λ n. set (map word xs ++ replicate n 0) (length xs) (word x)) left
+    ∙ (set-at (map word xs) 0 (replicate (128 - (length xs + 1)) 0) (word x) (length xs) (length-map xs word)
+    ∙ (sym (append-assoc (map word xs) (word x ∷ []) (replicate (128 - (length xs + 1)) 0))
+    ∙ (ap (λ l. l ++ replicate (128 - (length xs + 1)) 0) (sym (map-more word xs x))
+    ∙ ap (λ n. map word (xs ++ (x ∷ [])) ++ replicate (128 - n) 0) (sym (length-snoc xs x)))))
   where
     left : 128 - length xs ≡ suc (128 - (length xs + 1))
     left = omega arith
+
+pub word-more : {A : Type 0} (word : A → ℕ) (xs : List A) (x : A) → length xs < 128 → withWord (stored word xs) (word x) ≡ stored word (xs ++ (x ∷ []))
+word-more word xs x h = λ i. record { words = row-more word xs x h i; count = sym (length-snoc xs x) i }

@@ -1,85 +1,84 @@
 -- Marking what stands in a cell, and variables that are held and not made.
 use mathlib.Core.Path.{_≡_, refl, sym, _∙_, subst}
 use mathlib.Core.Logic.{_⊎_, inl, inr}
-use mathlib.Core.Bool.{Bool, true, false, cond, not}
+use mathlib.Core.Bool.{Bool, false}
 use mathlib.Core.List.{List}
-use Prim.Native.Nat.{ℕ, zero, suc, _+_, _≤_, _<_}
+use Prim.Native.Nat.{ℕ, suc, _+_, _≤_, _<_}
 use native.Mathlib.Omega.{arith}
-use native.Mathlib.Decide.{ℕ-discrete}
-use borrow.Author.Tests.{eq-eqb, eqb-true, eqb-false}
-use lib.Dec.{eqb}
-use lib.ListN.{length, set, length-set}
-use Rattle.model.specs.Case.{Table, Part, in-arg, in-left, in-right, Within, here, down, Lower}
-use Rattle.model.specs.Stored.{cellAt}
-use Rattle.theory.specs.Cells.{On}
-use Rattle.theory.proofs.MarkRows.{set-on, set-kept, set-cases}
+use native.Mathlib.Decide.{ℕ-discrete, decLt}
+use lib.ListN.{length, set, replicate, length-set}
+use Rattle.model.specs.Case as case
+use Rattle.model.specs.Case.{Table, AT, VA, ONE, TWO, MK, LN, Part, in-arg, in-left, in-right, Within, here, down, Lower}
+use Rattle.model.specs.Stored.{tableIn}
 use Rattle.model.proofs.Read.{clash}
-use Rattle.casefile.specs.Events.{PartsMarked, WithinMarked, looseAt}
+use Rattle.model.proofs.Rows.{table-past}
+use Rattle.theory.specs.Cells.{On}
+use Rattle.theory.specs.Decides.{Decides}
+use Rattle.theory.proofs.Decides.{decides-no, decides-iff}
+use Rattle.theory.proofs.MarkRows.{set-on, set-kept, set-cases, no-mark}
+use Rattle.cells.specs.Cells.{partsOf}
+use Rattle.cells.specs.declared.Parts.the-variants as parts
+use Rattle.casefile.specs.Events.{PartsMarked, WithinMarked, LooseAt, LooseMarks, Loose, shown}
 
--- Where the parts of a stored cell stand.
-pub part-second : (k a b : ℕ) → 2 ≤ k → Part (cellAt k a b) b
-part-second zero a b h = absurd (omega arith)
-part-second (suc zero) a b h = absurd (omega arith)
-part-second (suc (suc zero)) a b h = in-right
-part-second (suc (suc (suc zero))) a b h = in-right
-part-second (suc (suc (suc (suc n)))) a b h = in-arg
+-- ---- the parts of a cell
 
-pub part-first : (k a b : ℕ) → 2 ≤ k → k < 4 → Part (cellAt k a b) a
-part-first zero a b h l = absurd (omega arith)
-part-first (suc zero) a b h l = absurd (omega arith)
-part-first (suc (suc zero)) a b h l = in-left
-part-first (suc (suc (suc zero))) a b h l = in-left
-part-first (suc (suc (suc (suc n)))) a b h l = absurd (omega arith)
+part-none : {k : case.Cell} {d : ℕ} → partsOf k ≡ parts.None → Part k d → ⊥
+part-none e in-arg = clash (cc)
+part-none e in-left = clash (cc)
+part-none e in-right = clash (cc)
 
-part-none : (k a b : ℕ) {d : ℕ} → k < 2 → Part (cellAt k a b) d → ⊥
-part-none zero a b h q = elim q [ ]
-part-none (suc zero) a b h q = elim q [ ]
-part-none (suc (suc n)) a b h q = absurd (omega arith)
+part-one : {k : case.Cell} {a d : ℕ} → partsOf k ≡ parts.One a → Part k d → d ≡ a
+part-one e in-arg = cc
+part-one e in-left = clash (cc)
+part-one e in-right = clash (cc)
 
-part-one : (k a b : ℕ) {d : ℕ} → 4 ≤ k → Part (cellAt k a b) d → d ≡ b
-part-one zero a b h q = absurd (omega arith)
-part-one (suc zero) a b h q = absurd (omega arith)
-part-one (suc (suc zero)) a b h q = absurd (omega arith)
-part-one (suc (suc (suc zero))) a b h q = absurd (omega arith)
-part-one (suc (suc (suc (suc n)))) a b h in-arg = refl
+part-two : {k : case.Cell} {a b d : ℕ} → partsOf k ≡ parts.Two a b → Part k d → (d ≡ a) ⊎ (d ≡ b)
+part-two e in-arg = clash (cc)
+part-two e in-left = inl (cc)
+part-two e in-right = inr (cc)
 
-part-two : (k a b : ℕ) {d : ℕ} → 2 ≤ k → k < 4 → Part (cellAt k a b) d → (d ≡ a) ⊎ (d ≡ b)
-part-two zero a b h l q = absurd (omega arith)
-part-two (suc zero) a b h l q = absurd (omega arith)
-part-two (suc (suc zero)) a b h l in-left = inl refl
-part-two (suc (suc zero)) a b h l in-right = inr refl
-part-two (suc (suc (suc zero))) a b h l in-left = inl refl
-part-two (suc (suc (suc zero))) a b h l in-right = inr refl
-part-two (suc (suc (suc (suc n)))) a b h l q = absurd (omega arith)
+pub one-part : (k : case.Cell) {a : ℕ} → partsOf k ≡ parts.One a → Part k a
+one-part (AT n) e = clash (cc)
+one-part VA e = clash (cc)
+one-part (ONE g x) {a} e = let i : x ≡ a = cc in subst (Part (ONE g x)) i in-arg
+one-part (TWO h l r) e = clash (cc)
 
-module _ (k a b : ℕ) (marks : List ℕ) (size : length marks ≡ 128) where
-  pub mark-none : k < 2 → PartsMarked (cellAt k a b) marks marks
-  mark-none h = record { size = size; kept = λ v o. o; parts = λ d q. absurd (part-none k a b h q); only = λ v o. inl o }
+pub two-parts : (k : case.Cell) {a b : ℕ} → partsOf k ≡ parts.Two a b → Part k a × Part k b
+two-parts (AT n) e = clash (cc)
+two-parts VA e = clash (cc)
+two-parts (ONE g x) e = clash (cc)
+two-parts (TWO h l r) {a} {b} e = let i : l ≡ a = cc in let j : r ≡ b = cc in (subst (Part (TWO h l r)) i in-left, subst (Part (TWO h l r)) j in-right)
 
-  pub mark-one : 4 ≤ k → b < 128 → PartsMarked (cellAt k a b) marks (set marks b 1)
-  mark-one h lb = record {
-    size = length-set marks b 1 ∙ size;
-    kept = λ v o. set-kept marks b (omega arith) v o;
-    parts = λ d q. subst (On (set marks b 1)) (sym (part-one k a b h q)) (set-on marks b (omega arith));
-    only = λ v o. elim (set-cases marks b v o) [ inr m ↦ inl m | inl e ↦ inr (subst (Part (cellAt k a b)) (sym e) (part-second k a b (omega arith))) ];
+module _ (k : case.Cell) (marks : List ℕ) (size : length marks ≡ 128) where
+  pub mark-none : partsOf k ≡ parts.None → PartsMarked k marks marks
+  mark-none e = record { size = size; kept = λ v o. o; parts = λ d q. absurd (part-none e q); only = λ v o. inl o }
+
+  pub mark-one : {a : ℕ} → partsOf k ≡ parts.One a → a < 128 → PartsMarked k marks (set marks a 1)
+  mark-one {a} e la = record {
+    size = length-set marks a 1 ∙ size;
+    kept = λ v o. set-kept marks a (omega arith) v o;
+    parts = λ d q. subst (On (set marks a 1)) (sym (part-one e q)) (set-on marks a (omega arith));
+    only = λ v o. elim (set-cases marks a v o) [ inr m ↦ inl m | inl i ↦ inr (subst (Part k) (sym i) (one-part k e)) ];
   }
 
-  pub mark-two : 2 ≤ k → k < 4 → b < 128 → a < 128 → PartsMarked (cellAt k a b) marks (set (set marks b 1) a 1)
-  mark-two h l lb la = record {
-    size = length-set (set marks b 1) a 1 ∙ (length-set marks b 1 ∙ size);
-    kept = λ v o. set-kept (set marks b 1) a in-a v (set-kept marks b (omega arith) v o);
-    parts = λ d q. elim (part-two k a b h l q) [
-      | inl e ↦ subst (On (set (set marks b 1) a 1)) (sym e) (set-on (set marks b 1) a in-a)
-      | inr e ↦ subst (On (set (set marks b 1) a 1)) (sym e) (set-kept (set marks b 1) a in-a b (set-on marks b (omega arith)))
+  pub mark-two : {a b : ℕ} → partsOf k ≡ parts.Two a b → a < 128 → b < 128 → PartsMarked k marks (set (set marks a 1) b 1)
+  mark-two {a} {b} e la lb = record {
+    size = length-set (set marks a 1) b 1 ∙ (length-set marks a 1 ∙ size);
+    kept = λ v o. set-kept (set marks a 1) b in-b v (set-kept marks a (omega arith) v o);
+    parts = λ d q. elim (part-two e q) [
+      | inl i ↦ subst (On (set (set marks a 1) b 1)) (sym i) (set-kept (set marks a 1) b in-b a (set-on marks a (omega arith)))
+      | inr i ↦ subst (On (set (set marks a 1) b 1)) (sym i) (set-on (set marks a 1) b in-b)
     ];
-    only = λ v o. elim (set-cases (set marks b 1) a v o) [
-      | inl e ↦ inr (subst (Part (cellAt k a b)) (sym e) (part-first k a b h l))
-      | inr o′ ↦ elim (set-cases marks b v o′) [ inr m ↦ inl m | inl e ↦ inr (subst (Part (cellAt k a b)) (sym e) (part-second k a b h)) ]
+    only = λ v o. elim (set-cases (set marks a 1) b v o) [
+      | inl i ↦ inr (subst (Part k) (sym i) (two-parts k e .1))
+      | inr o′ ↦ elim (set-cases marks a v o′) [ inr m ↦ inl m | inl i ↦ inr (subst (Part k) (sym i) (two-parts k e .0)) ]
     ];
   }
     where
-      in-a : a < length (set marks b 1)
-      in-a = omega (arith, length-set marks b 1)
+      in-b : b < length (set marks a 1)
+      in-b = omega (arith, length-set marks a 1)
+
+-- ---- all that stands in a cell
 
 -- The parts of marked cells are marked, or stand in c.
 abbrev pub Closing : Table → ℕ → List ℕ → Type 0
@@ -150,24 +149,32 @@ module _ (T : Table) (low : Lower T) (c : ℕ) (marks : List ℕ) (size : length
         | inl e ↦ inr (down (subst (λ x. Part (T x) d) e q) (here refl))
       ]
 
--- Variables that are held and not made.
-pub loose-at-true : (k h m : ℕ) → looseAt k h m ≡ true → (k ≡ 1) × (h ≡ 1) × (m ≡ 1 → ⊥)
-unfolding looseAt
-loose-at-true k h m e = go (eqb k 1) (eqb h 1) (eqb m 1) refl refl refl e
-  where
-    go : (x y z : Bool) → eqb k 1 ≡ x → eqb h 1 ≡ y → eqb m 1 ≡ z → cond x (cond y (not z) false) false ≡ true → (k ≡ 1) × (h ≡ 1) × (m ≡ 1 → ⊥)
-    go true true false ek eh em e = (eqb-true k 1 ek, eqb-true h 1 eh, eqb-false m 1 em)
-    go true true true ek eh em e = clash (cc)
-    go true false z ek eh em e = clash (cc)
-    go false y z ek eh em e = clash (cc)
+-- ---- variables that are held and not made
 
-pub loose-at-false : (k h m : ℕ) → looseAt k h m ≡ false → k ≡ 1 → h ≡ 1 → m ≡ 1
-unfolding looseAt
-loose-at-false k h m e ik ih = go (eqb m 1) refl (sym (ap₃ (eq-eqb k 1 ik) (eq-eqb h 1 ih)) ∙ e)
-  where
-    ap₃ : eqb k 1 ≡ true → eqb h 1 ≡ true → cond (eqb k 1) (cond (eqb h 1) (not (eqb m 1)) false) false ≡ not (eqb m 1)
-    ap₃ a b = rw (a, b)
+-- A variable is one of the 128 words.
+pub variable-below : (words : List ℕ) (v : ℕ) → tableIn words v ≡ VA → v < 128
+variable-below words v e = elim (decLt v 128) [ yes h ↦ h | no h ↦ clash (cc (table-past words v (omega arith))) ]
 
-    go : (z : Bool) → eqb m 1 ≡ z → not (eqb m 1) ≡ false → m ≡ 1
-    go true em i = eqb-true m 1 em
-    go false em i = clash (cc)
+module _ {k : case.Cell} {held made : ℕ} where
+  pub not-held : (held ≡ 1 → ⊥) → Decides false (LooseAt k held made)
+  not-held n = decides-no λ (v, h, m). n h
+
+  pub is-made : made ≡ 1 → Decides false (LooseAt k held made)
+  is-made i = decides-no λ (v, h, m). m i
+
+  pub not-made : {r : Bool} → held ≡ 1 → (made ≡ 1 → ⊥) → Decides r (k ≡ VA) → Decides r (LooseAt k held made)
+  not-made i n d = decides-iff d (λ v. (v, i, n)) (λ (v, h, m). v)
+
+module _ {T : Table} {made : List ℕ} {c : ℕ} where
+  -- An MK shows none, and an LN one of those that its cell holds.
+  pub make-loose : Decides false (Loose T made (MK c))
+  make-loose = decides-no λ x. elim x [ ]
+
+  pub learn-loose : {held : List ℕ} {r : Bool} → WithinMarked T (replicate 128 0) c held → Decides r (LooseMarks T held made) → Decides r (Loose T made (LN c))
+  learn-loose {held} w d = decides-iff d (λ (v, i, o, n). shown i (stands v o) n) back
+    where
+      stands : (v : ℕ) → On held v → Within T v c
+      stands v o = elim (w .only (λ x d o q. absurd (no-mark 128 x o)) v o) [ inl o′ ↦ absurd (no-mark 128 v o′) | inr i ↦ i ]
+
+      back : Loose T made (LN c) → LooseMarks T held made
+      back (shown {v} i j n) = (v, i, w .all v j, n)

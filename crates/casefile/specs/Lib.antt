@@ -1,5 +1,5 @@
 -- How the reader's own types say what model/specs says.
+pub mod Case
 pub mod Record
 pub mod Cells
 pub mod Events
-pub mod Case

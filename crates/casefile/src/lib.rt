@@ -1,17 +1,24 @@
-// The reader of case files: from any bytes to a table and events by value, or to a refusal with its number and place.
-mod cells;
+// The reader of case files: from any bytes to a table and a run by value, or to a refusal with its number and place.
 pub mod events;
 mod record;
 mod rest;
+mod store;
+mod table;
 
-use cells::Stop;
 use cells::Table;
-use events::Events;
 use events::Verdict;
+use table::Stop;
 ghost use mathlib.Core.Path.{_≡_};
 ghost use Prim.Native.Nat.{_≤_};
 ghost use Rattle.model.specs.Format.{readFile};
+ghost use Rattle.model.specs.Stored.{tableIn};
 ghost use Rattle.casefile.specs.Case.{caseOf, refusal, VariableFound};
+
+// One word for each of so many cells, or events, then zeros.
+pub struct Words {
+    pub words: [u32; 128],
+    pub count: usize,
+}
 
 // The offset of the first VA record.
 pub enum Found {
@@ -19,22 +26,22 @@ pub enum Found {
     Nowhere,
 }
 
-// What is read of a file: the reply to it and, where it is accepted, its cells and events and the offset of the first VA. A refusal comes with no cell and no event.
+// What is read of a file: the reply to it and, where it is accepted, its table, its run and the offset of the first VA. A refusal comes with no cell and no event.
 pub struct Case {
     pub verdict: Verdict,
-    pub table: Table,
-    pub events: Events,
+    pub table: Words,
+    pub run: Words,
     pub variable: Found,
 }
 
 // The offset of the first variable of a table of n cells: the records of the cells before it have four bytes each.
-fn first_variable(kind: &[u8; 128], n: usize) -> Found
+fn first_variable(table: &Table, n: usize) -> Found
     requires { ⌜ n ≤ 128 ⌝ }
-    ensures { λ r. ⌜ VariableFound (now (kind .entry)) n r ⌝ }
+    ensures { λ r. ⌜ VariableFound (tableIn (now (table .entry))) n r ⌝ }
 {
     let mut i: usize = 0;
     while i < n {
-        if kind[i] == 1 {
+        if cells::is_variable(table, i) {
             return Found::At(4 * i);
         }
         i += 1;
@@ -48,8 +55,8 @@ fn refused(number: u8, place: usize) -> Case
 {
     Case {
         verdict: Verdict::Refused(number, place),
-        table: cells::empty_table(),
-        events: rest::no_events(),
+        table: store::no_words(),
+        run: store::no_words(),
         variable: Found::Nowhere,
     }
 }
@@ -58,7 +65,7 @@ fn refused(number: u8, place: usize) -> Case
 pub fn read_case(file: &[u8]) -> Case
     ensures { λ r. ⌜ r ≡ caseOf (readFile (now (file .entry))) ⌝ }
 {
-    let read = cells::read_cells(file);
+    let read = table::read_cells(file);
     let at = read.at;
     let t = read.table;
     let stop = read.stop;
@@ -67,14 +74,14 @@ pub fn read_case(file: &[u8]) -> Case
         Stop::Events => {
             let end = rest::read_events(&file[at..], at, t);
             let verdict = end.verdict;
-            let events = end.events;
+            let run = end.run;
             match verdict {
                 Verdict::Refused(number, place) => refused(number, place),
                 Verdict::Accepted => Case {
                     verdict: Verdict::Accepted,
                     table: t,
-                    events: events,
-                    variable: first_variable(&t.kind, t.cells),
+                    run: run,
+                    variable: first_variable(&t.words, t.count),
                 },
             }
         }

@@ -1,12 +1,16 @@
 // One record: its mark and its fields.
+use cells::Cell;
+use cells::Event;
 ghost use mathlib.Core.Path.{_≡_};
-ghost use Prim.Native.Nat.{_+_, _≤_};
+ghost use mathlib.Core.Bool.{cond};
+ghost use Prim.Native.Nat.{_+_, _*_, _≤_};
+ghost use lib.Dec.{leb};
 ghost use lib.ListN.{length, getD, drop};
-ghost use Rattle.model.specs.Format.{begins};
-ghost use Rattle.casefile.specs.Record.{markAt, widthOf, word, recordFor, fieldsAt};
+ghost use Rattle.model.specs.Format.{begins, width, recordOf};
+ghost use Rattle.casefile.specs.Record.{kindFor, knownAs, markAt, recordSays, saidAs, shortOf, Marked, frontSays};
 
-// What stands where a mark is due: a known mark, an unknown one, or fewer bytes than a mark has.
-pub enum Mark {
+// The kinds of records.
+pub enum Kind {
     Atom,
     Variable,
     Pair,
@@ -15,6 +19,11 @@ pub enum Mark {
     Make,
     Learn,
     End,
+}
+
+// What stands where a mark is due: a known mark, an unknown one, or fewer bytes than a mark has.
+pub enum Mark {
+    Known(Kind),
     Unknown,
     Cut,
 }
@@ -31,9 +40,19 @@ pub enum Record {
     End,
 }
 
-// The fields behind a mark: all there, or cut.
-pub enum Fields {
+// What a record says: a cell, an event, or the end.
+pub enum Said {
+    Cell(Cell),
+    Event(Event),
+    End,
+}
+
+// What stands where a record is due: a whole one; the mark of a cell, or of an event, without all of its fields; an unknown mark, or a cut one.
+pub enum Front {
     Whole(Record),
+    ShortCell,
+    ShortEvent,
+    Unknown,
     Cut,
 }
 
@@ -49,40 +68,36 @@ fn begins_with(file: &[u8], at: usize, mark: &[u8; 2]) -> bool
     }
 }
 
-// The mark of which both bytes stand at `at`.
+// The kind, if its mark stands at `at`; else what was found without it.
+fn or_kind(file: &[u8], at: usize, mark: &[u8; 2], kind: Kind, other: Mark) -> Mark
+    requires { ⌜ at + 2 ≤ length (now file) ⌝ }
+    ensures { λ r. ⌜ r ≡ cond (begins (drop at (now (file .entry))) (now (mark .entry))) (knownAs kind) other ⌝ }
+{
+    if begins_with(file, at, mark) {
+        Mark::Known(kind)
+    } else {
+        other
+    }
+}
+
+// The mark of which both bytes stand at `at`: a line for each kind, the last one first.
 fn whole_mark(file: &[u8], at: usize) -> Mark
     requires { ⌜ at + 2 ≤ length (now file) ⌝ }
     ensures { λ r. ⌜ r ≡ markAt (drop at (now (file .entry))) ⌝ }
 {
-    if begins_with(file, at, b"AT") {
-        return Mark::Atom;
-    }
-    if begins_with(file, at, b"VA") {
-        return Mark::Variable;
-    }
-    if begins_with(file, at, b"PR") {
-        return Mark::Pair;
-    }
-    if begins_with(file, at, b"SE") {
-        return Mark::Seal;
-    }
-    if begins_with(file, at, b"AP") {
-        return Mark::Apply;
-    }
-    if begins_with(file, at, b"MK") {
-        return Mark::Make;
-    }
-    if begins_with(file, at, b"LN") {
-        return Mark::Learn;
-    }
-    if begins_with(file, at, b"EN") {
-        return Mark::End;
-    }
-    Mark::Unknown
+    let none = Mark::Unknown;
+    let end = or_kind(file, at, b"EN", Kind::End, none);
+    let learn = or_kind(file, at, b"LN", Kind::Learn, end);
+    let make = or_kind(file, at, b"MK", Kind::Make, learn);
+    let apply = or_kind(file, at, b"AP", Kind::Apply, make);
+    let seal = or_kind(file, at, b"SE", Kind::Seal, apply);
+    let pair = or_kind(file, at, b"PR", Kind::Pair, seal);
+    let variable = or_kind(file, at, b"VA", Kind::Variable, pair);
+    or_kind(file, at, b"AT", Kind::Atom, variable)
 }
 
 // What stands at `at`, where a mark is due.
-pub fn mark_at(file: &[u8], at: usize) -> Mark
+fn mark_at(file: &[u8], at: usize) -> Mark
     ensures { λ r. ⌜ r ≡ markAt (drop at (now (file .entry))) ⌝ }
 {
     if file.len() < 2 {
@@ -95,20 +110,18 @@ pub fn mark_at(file: &[u8], at: usize) -> Mark
 }
 
 // How many bytes of fields follow a mark.
-fn width_of(mark: Mark) -> usize
-    ensures { λ r. ⌜ r ≡ widthOf mark ⌝ }
+fn width_of(kind: Kind) -> usize
+    ensures { λ r. ⌜ r ≡ width (kindFor kind) ⌝ }
 {
-    match mark {
-        Mark::Atom => 2,
-        Mark::Variable => 0,
-        Mark::Pair => 2,
-        Mark::Seal => 2,
-        Mark::Apply => 2,
-        Mark::Make => 1,
-        Mark::Learn => 1,
-        Mark::End => 0,
-        Mark::Unknown => 0,
-        Mark::Cut => 0,
+    match kind {
+        Kind::Atom => 2,
+        Kind::Variable => 0,
+        Kind::Pair => 2,
+        Kind::Seal => 2,
+        Kind::Apply => 2,
+        Kind::Make => 1,
+        Kind::Learn => 1,
+        Kind::End => 0,
     }
 }
 
@@ -121,38 +134,88 @@ fn byte(file: &[u8], i: usize) -> u8
 
 // A number of two bytes, the high byte first.
 fn word_of(high: u8, low: u8) -> u16
-    ensures { λ r. ⌜ r ≡ word high low ⌝ }
+    ensures { λ r. ⌜ r ≡ high * 256 + low ⌝ }
 {
     (high as u16) * 256 + (low as u16)
 }
 
-// The record of a known mark with the field bytes a and b.
-fn record_of(mark: Mark, a: u8, b: u8) -> Record
-    ensures { λ r. ⌜ r ≡ recordFor mark a b ⌝ }
+// The record of a kind with the field bytes a and b.
+fn record_of(kind: Kind, a: u8, b: u8) -> Record
+    ensures { λ r. ⌜ recordSays r ≡ recordOf (kindFor kind) a b ⌝ }
 {
-    match mark {
-        Mark::Atom => Record::Atom(word_of(a, b)),
-        Mark::Variable => Record::Variable,
-        Mark::Pair => Record::Pair(a, b),
-        Mark::Seal => Record::Seal(a, b),
-        Mark::Apply => Record::Apply(a, b),
-        Mark::Make => Record::Make(a),
-        Mark::Learn => Record::Learn(a),
-        Mark::End => Record::End,
-        Mark::Unknown => Record::End,
-        Mark::Cut => Record::End,
+    match kind {
+        Kind::Atom => Record::Atom(word_of(a, b)),
+        Kind::Variable => Record::Variable,
+        Kind::Pair => Record::Pair(a, b),
+        Kind::Seal => Record::Seal(a, b),
+        Kind::Apply => Record::Apply(a, b),
+        Kind::Make => Record::Make(a),
+        Kind::Learn => Record::Learn(a),
+        Kind::End => Record::End,
     }
 }
 
-// The record whose mark stands at `at`, if its fields are all there.
-pub fn fields_at(file: &[u8], at: usize, mark: Mark) -> Fields
-    requires { ⌜ at + 2 ≤ length (now file) ⌝ }
-    ensures { λ r. ⌜ r ≡ fieldsAt (drop at (now (file .entry))) mark ⌝ }
+// A record of a kind that is short of its fields.
+fn short_of(kind: Kind) -> Front
+    ensures { λ r. ⌜ r ≡ shortOf kind ⌝ }
+{
+    match kind {
+        Kind::Atom => Front::ShortCell,
+        Kind::Variable => Front::ShortCell,
+        Kind::Pair => Front::ShortCell,
+        Kind::Seal => Front::ShortCell,
+        Kind::Apply => Front::ShortCell,
+        Kind::Make => Front::ShortEvent,
+        Kind::Learn => Front::ShortEvent,
+        Kind::End => Front::ShortEvent,
+    }
+}
+
+// The record of the kind whose mark stands at `at`.
+fn fields_at(file: &[u8], at: usize, kind: Kind) -> Front
+    requires { ⌜ Marked (drop at (now file)) (kindFor kind) ⌝ }
+    ensures { λ r. ⌜ frontSays (drop at (now (file .entry))) r ⌝ }
 {
     let from = at + 2;
-    if file.len() - from < width_of(mark) {
-        return Fields::Cut;
+    if file.len() - from < width_of(kind) {
+        return short_of(kind);
     }
-    let second = byte(file, from + 1);
-    Fields::Whole(record_of(mark, byte(file, from), second))
+    let a = byte(file, from);
+    let b = byte(file, from + 1);
+    Front::Whole(record_of(kind, a, b))
+}
+
+// What stands at `at`, where a record is due.
+pub fn front_at(file: &[u8], at: usize) -> Front
+    ensures { λ r. ⌜ frontSays (drop at (now (file .entry))) r ⌝ }
+{
+    let mark = mark_at(file, at);
+    match mark {
+        Mark::Known(kind) => fields_at(file, at, kind),
+        Mark::Unknown => Front::Unknown,
+        Mark::Cut => Front::Cut,
+    }
+}
+
+// What a record says.
+pub fn said_by(r: Record) -> Said
+    ensures { λ s. ⌜ saidAs s ≡ recordSays r ⌝ }
+{
+    match r {
+        Record::Atom(n) => Said::Cell(Cell::Atom(n)),
+        Record::Variable => Said::Cell(Cell::Variable),
+        Record::Pair(a, b) => Said::Cell(Cell::Pair(a, b)),
+        Record::Seal(a, b) => Said::Cell(Cell::Seal(a, b)),
+        Record::Apply(f, a) => Said::Cell(Cell::Apply(f, a)),
+        Record::Make(c) => Said::Event(Event::Make(c)),
+        Record::Learn(c) => Said::Event(Event::Learn(c)),
+        Record::End => Said::End,
+    }
+}
+
+// The refusal of a record that is short of its fields, after n of its sort: the count is tested first.
+pub fn short_fault(n: usize) -> u8
+    ensures { λ r. ⌜ r ≡ cond (leb 128 n) 4 1 ⌝ }
+{
+    if 128 <= n { 4 } else { 1 }
 }

@@ -1,24 +1,24 @@
 // The event records of a file: read as a part of the file that begins where the cell records end.
-use super::cells::Section;
-use super::cells::Table;
-use super::events::Events;
+use super::Words;
 use super::events::Verdict;
-use super::record::Fields;
-use super::record::Mark;
-use super::record::Record;
+use super::record::Front;
+use super::record::Said;
+use cells::Cell;
+use cells::Event;
+use cells::Parts;
+use cells::Table;
 ghost use mathlib.Core.Path.{_≡_};
 ghost use Prim.Native.Nat.{_+_, _<_, _≤_, _^_};
 ghost use lib.ListN.{length, drop};
-ghost use Rattle.model.specs.Stored.{tableAt, cellAt};
+ghost use Rattle.model.specs.Stored.{tableIn};
 ghost use Rattle.model.specs.Case.{Lower};
-ghost use Rattle.casefile.specs.Record.{markAt};
-ghost use Rattle.casefile.specs.Cells.{sectionOf};
-ghost use Rattle.casefile.specs.Events.{inEvents, endMark, eventFor, belowCells, emptyEvents, withEvent, eventSays, PartsMarked, WithinMarked, looseAt, looseSays, endedAs, EventsRead, PartsFit};
+ghost use Rattle.theory.specs.Decides.{Decides};
+ghost use Rattle.cells.specs.Cells.{asCell, asEvent};
+ghost use Rattle.casefile.specs.Events.{eventStep, eventSays, PartsFit, PartsMarked, WithinMarked, LooseAt, LooseMarks, Loose, marksAfter, AimFits, endedAs, EventsRead};
 
-// What is found where an event record may stand.
+// What is found where an event record may stand: one more event, the end, or a fault.
 enum EventStep {
-    Make(u8),
-    Learn(u8),
+    Next(Event),
     End,
     Refused(u8),
 }
@@ -26,123 +26,70 @@ enum EventStep {
 // The events of a file with the reply to it.
 pub struct EventsEnd {
     pub verdict: Verdict,
-    pub events: Events,
+    pub run: Words,
 }
 
-// Whether the mark is EN.
-fn is_end(mark: Mark) -> bool
-    ensures { λ r. ⌜ r ≡ endMark mark ⌝ }
+// The step at a whole record of an event, after n events over so many cells.
+fn next_event(e: Event, count: usize, n: usize) -> EventStep
+    ensures { λ r. ⌜ r ≡ eventStep e count n ⌝ }
 {
-    match mark {
-        Mark::Atom => false,
-        Mark::Variable => false,
-        Mark::Pair => false,
-        Mark::Seal => false,
-        Mark::Apply => false,
-        Mark::Make => false,
-        Mark::Learn => false,
-        Mark::End => true,
-        Mark::Unknown => false,
-        Mark::Cut => false,
-    }
-}
-
-// The event of an event record; any other record ends.
-fn event_of(r: Record) -> EventStep
-    ensures { λ s. ⌜ s ≡ eventFor r ⌝ }
-{
-    match r {
-        Record::Atom(n) => EventStep::End,
-        Record::Variable => EventStep::End,
-        Record::Pair(a, b) => EventStep::End,
-        Record::Seal(a, b) => EventStep::End,
-        Record::Apply(f, a) => EventStep::End,
-        Record::Make(c) => EventStep::Make(c),
-        Record::Learn(c) => EventStep::Learn(c),
-        Record::End => EventStep::End,
-    }
-}
-
-// The event, or refusal 5 where its cell is not below the cell count.
-fn below_cells(step: EventStep, cells: usize) -> EventStep
-    ensures { λ r. ⌜ r ≡ belowCells step cells ⌝ }
-{
-    match step {
-        EventStep::Make(c) => if (c as usize) < cells {
-            EventStep::Make(c)
-        } else {
-            EventStep::Refused(5)
-        },
-        EventStep::Learn(c) => if (c as usize) < cells {
-            EventStep::Learn(c)
-        } else {
-            EventStep::Refused(5)
-        },
-        EventStep::End => EventStep::End,
-        EventStep::Refused(number) => EventStep::Refused(number),
-    }
-}
-
-// The event record with the mark at `at`, after n events.
-fn whole_event(rest: &[u8], at: usize, cells: usize, n: usize, mark: Mark) -> EventStep
-    requires { ⌜ mark ≡ markAt (drop at (now rest)) ⌝ }
-    requires { ⌜ sectionOf mark ≡ inEvents ⌝ }
-    ensures { λ r. ⌜ eventSays (drop at (now (rest .entry))) cells n r ⌝ }
-{
-    if is_end(mark) {
-        return EventStep::End;
-    }
     if 128 <= n {
         return EventStep::Refused(4);
     }
-    let fields = super::record::fields_at(rest, at, mark);
-    let Fields::Whole(r) = fields else {
-        return EventStep::Refused(1);
-    };
-    below_cells(event_of(r), cells)
+    if count <= cells::aim_of(e) as usize {
+        EventStep::Refused(5)
+    } else {
+        EventStep::Next(e)
+    }
 }
 
-// What stands at `at`, after n events.
-fn event_step(rest: &[u8], at: usize, cells: usize, n: usize) -> EventStep
-    ensures { λ r. ⌜ eventSays (drop at (now (rest .entry))) cells n r ⌝ }
+// What stands at `at`, after n events over so many cells.
+fn event_step(rest: &[u8], at: usize, count: usize, n: usize) -> EventStep
+    ensures { λ r. ⌜ eventSays (drop at (now (rest .entry))) count n r ⌝ }
 {
-    let mark = super::record::mark_at(rest, at);
-    let section = super::cells::section_of(mark);
-    match section {
-        Section::Cells => EventStep::Refused(3),
-        Section::Events => whole_event(rest, at, cells, n, mark),
-        Section::Fault(number) => EventStep::Refused(number),
+    let front = super::record::front_at(rest, at);
+    match front {
+        Front::Whole(r) => {
+            let said = super::record::said_by(r);
+            match said {
+                Said::Cell(_) => EventStep::Refused(3),
+                Said::Event(e) => next_event(e, count, n),
+                Said::End => EventStep::End,
+            }
+        }
+        Front::ShortCell => EventStep::Refused(3),
+        Front::ShortEvent => EventStep::Refused(super::record::short_fault(n)),
+        Front::Unknown => EventStep::Refused(2),
+        Front::Cut => EventStep::Refused(1),
     }
 }
 
 // The marks with the parts of a cell marked too.
-fn mark_parts(kind: u8, first: u8, second: u8, marks: [u8; 128]) -> [u8; 128]
-    requires { ⌜ PartsFit kind first second ⌝ }
-    ensures { λ r. ⌜ PartsMarked (cellAt kind first second) marks r ⌝ }
+fn mark_parts(k: Cell, marks: [u8; 128]) -> [u8; 128]
+    requires { ⌜ PartsFit (asCell k) ⌝ }
+    ensures { λ r. ⌜ PartsMarked (asCell k) marks r ⌝ }
 {
-    if kind < 2 {
-        return marks;
-    }
+    let parts = cells::parts_of(k);
     let mut m = marks;
-    m[second as usize] = 1;
-    if 4 <= kind {
-        return m;
+    match parts {
+        Parts::None => m,
+        Parts::One(a) => {
+            m[a as usize] = 1;
+            m
+        }
+        Parts::Two(a, b) => {
+            m[a as usize] = 1;
+            m[b as usize] = 1;
+            m
+        }
     }
-    m[first as usize] = 1;
-    m
 }
 
 // The marks with all cells that stand in the cell c marked too: from c downwards, as parts are lower.
-fn mark_within<'a>(
-    kind: &'a [u8; 128],
-    first: &'a [u8; 128],
-    second: &'a [u8; 128],
-    marks: [u8; 128],
-    c: u8,
-) -> [u8; 128]
-    requires { ⌜ Lower (tableAt (now kind) (now first) (now second)) ⌝ }
+fn mark_within(table: &Table, marks: [u8; 128], c: u8) -> [u8; 128]
+    requires { ⌜ Lower (tableIn (now table)) ⌝ }
     requires { ⌜ c < 128 ⌝ }
-    ensures { λ r. ⌜ WithinMarked (tableAt (now (kind .entry)) (now (first .entry)) (now (second .entry))) marks c r ⌝ }
+    ensures { λ r. ⌜ WithinMarked (tableIn (now (table .entry))) marks c r ⌝ }
 {
     let mut m = marks;
     let mut i: usize = c as usize;
@@ -151,32 +98,32 @@ fn mark_within<'a>(
     while 0 < i {
         i -= 1;
         if m[i] == 1 {
-            m = mark_parts(kind[i], first[i], second[i], m);
+            m = mark_parts(cells::cell_at(table, i), m);
         }
     }
     m
 }
 
-// Whether a cell is a variable that is marked as held, and not as made.
-fn loose_at(kind: u8, held: u8, made: u8) -> bool
-    ensures { λ r. ⌜ r ≡ looseAt kind held made ⌝ }
+// Is the cell v a variable, marked as held and not as made?
+fn loose_at(table: &Table, v: usize, held: u8, made: u8) -> bool
+    ensures { λ r. ⌜ Decides r (LooseAt (tableIn (now (table .entry)) v) held made) ⌝ }
 {
-    if kind != 1 {
-        return false;
-    }
     if held != 1 {
         return false;
     }
-    made != 1
+    if made == 1 {
+        return false;
+    }
+    cells::is_variable(table, v)
 }
 
-// Whether some variable is marked as held, and not as made.
-fn is_loose(kind: &[u8; 128], held: [u8; 128], made: [u8; 128]) -> bool
-    ensures { λ r. ⌜ looseSays (now (kind .entry)) held made r ⌝ }
+// Is some variable marked as held and not as made?
+fn is_loose(table: &Table, held: [u8; 128], made: [u8; 128]) -> bool
+    ensures { λ r. ⌜ Decides r (LooseMarks (tableIn (now (table .entry))) held made) ⌝ }
 {
     let mut v: usize = 0;
     while v < 128 {
-        if loose_at(kind[v], held[v], made[v]) {
+        if loose_at(table, v, held[v], made[v]) {
             return true;
         }
         v += 1;
@@ -184,28 +131,32 @@ fn is_loose(kind: &[u8; 128], held: [u8; 128], made: [u8; 128]) -> bool
     false
 }
 
-// No events.
-pub fn no_events() -> Events
-    ensures { λ r. ⌜ r ≡ emptyEvents ⌝ }
+// Does an event show a variable that is not marked as made?
+fn shows_loose(table: &Table, made: [u8; 128], event: Event) -> bool
+    requires { ⌜ Lower (tableIn (now table)) ⌝ }
+    requires { ⌜ AimFits (asEvent event) ⌝ }
+    ensures { λ r. ⌜ Decides r (Loose (tableIn (now (table .entry))) made (asEvent event)) ⌝ }
 {
-    Events {
-        kind: [0; 128],
-        cell: [0; 128],
-        count: 0,
+    match event {
+        Event::Make(_) => false,
+        Event::Learn(c) => {
+            let none: [u8; 128] = [0; 128];
+            let held = mark_within(table, none, c);
+            is_loose(table, held, made)
+        }
     }
 }
 
-// The events with one more.
-fn with_event(e: Events, kind: u8, cell: u8) -> Events
-    requires { ⌜ e .count < 128 ⌝ }
-    ensures { λ r. ⌜ r ≡ withEvent e kind cell ⌝ }
+// The marks of what is made, after one event more.
+fn made_after(table: &Table, made: [u8; 128], event: Event) -> [u8; 128]
+    requires { ⌜ Lower (tableIn (now table)) ⌝ }
+    requires { ⌜ AimFits (asEvent event) ⌝ }
+    ensures { λ r. ⌜ marksAfter (tableIn (now (table .entry))) made (asEvent event) r ⌝ }
 {
-    let mut u = e;
-    let at = e.count;
-    u.kind[at] = kind;
-    u.cell[at] = cell;
-    u.count = at + 1;
-    u
+    match event {
+        Event::Make(c) => mark_within(table, made, c),
+        Event::Learn(_) => made,
+    }
 }
 
 // The reply at an EN whose mark stands at `at`: nothing may follow.
@@ -221,44 +172,42 @@ fn ended(rest: &[u8], at: usize, base: usize) -> Verdict
     }
 }
 
-// The event records from the front of the rest of a file, which begins at the offset `base`.
-pub fn read_events(rest: &[u8], base: usize, t: Table) -> EventsEnd
-    requires { ⌜ Lower (tableAt (t .kind) (t .first) (t .second)) ⌝ }
-    requires { ⌜ t .cells ≤ 128 ⌝ }
+// The event records from the front of the rest of a file, which begins at the offset `base`; a refusal comes with no event.
+pub fn read_events(rest: &[u8], base: usize, t: Words) -> EventsEnd
+    requires { ⌜ Lower (tableIn (t .words)) ⌝ }
+    requires { ⌜ t .count ≤ 128 ⌝ }
     requires { ⌜ base + length (now rest) < 2 ^ 64 ⌝ }
     ensures { λ r. ⌜ EventsRead (now (rest .entry)) base t r ⌝ }
 {
-    let mut e = no_events();
+    let mut words: [u32; 128] = [0; 128];
+    let mut n: usize = 0;
     let mut made: [u8; 128] = [0; 128];
     let mut at: usize = 0;
     loop {
-        let n = e.count;
-        let step = event_step(rest, at, t.cells, n);
+        let step = event_step(rest, at, t.count, n);
         match step {
             EventStep::Refused(number) => return EventsEnd {
                 verdict: Verdict::Refused(number, base + at),
-                events: e,
+                run: super::store::no_words(),
             },
             EventStep::End => return EventsEnd {
                 verdict: ended(rest, at, base),
-                events: e,
+                run: Words {
+                    words: words,
+                    count: n,
+                },
             },
-            EventStep::Make(c) => {
-                let more = mark_within(&t.kind, &t.first, &t.second, made, c);
-                made = more;
-                e = with_event(e, 0, c);
-                at += 3;
-            }
-            EventStep::Learn(c) => {
-                let none: [u8; 128] = [0; 128];
-                let held = mark_within(&t.kind, &t.first, &t.second, none, c);
-                if is_loose(&t.kind, held, made) {
+            EventStep::Next(event) => {
+                if shows_loose(&t.words, made, event) {
                     return EventsEnd {
                         verdict: Verdict::Refused(6, base + at),
-                        events: e,
+                        run: super::store::no_words(),
                     };
                 }
-                e = with_event(e, 1, c);
+                let more = made_after(&t.words, made, event);
+                made = more;
+                words[n] = cells::event_word(event);
+                n += 1;
                 at += 3;
             }
         }

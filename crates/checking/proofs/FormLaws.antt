@@ -1,97 +1,96 @@
--- The form of an entry by the kinds, the first entry of bad form, and his own name put for the entries 255.
-use mathlib.Core.Path.{_≡_, refl, _∙_}
-use mathlib.Core.Bool.{true, false, not, true≢false, false≢true}
+-- The form of an entry, and his own name put for the entries 255.
+use mathlib.Core.Path.{_≡_, refl, _∙_, ap}
+use mathlib.Core.Bool.{Bool, false, not, cond}
 use mathlib.Core.List.{List}
 use Prim.Native.Nat.{ℕ, _+_, _≤_, _<_}
 use native.Mathlib.Omega.{arith}
 use native.Mathlib.Decide.{decLt}
-use lib.Dec.{eqb}
+use lib.Dec.{eqb, ltb}
 use lib.ListN.{length, getD, set, length-set, List·getD-eq-default}
 use lib.Seq.{getD-set-same, getD-set-other}
 use borrow.Author.Count.{below-more}
-use borrow.Author.Tests.{eqb-true, eqb-false, not-true, not-false}
-use Rattle.model.specs.Case.{VA, Table}
+use Rattle.model.specs.Case.{AT, VA, Table}
+use Rattle.model.specs.Stored.{cellIn, tableIn}
 use Rattle.model.specs.Values.{Entry, bound, own, itself}
-use Rattle.checking.specs.Form.{Fits, Owned}
+use Rattle.model.proofs.Rows.{table-at}
+use Rattle.theory.specs.Decides.{Decides}
+use Rattle.theory.proofs.Decides.{decides-no, decides-eqb, decides-iff, decides-not}
+use Rattle.checking.specs.Form.{Owned}
 
 -- ---- one entry
 
-module _ (kinds : List ℕ) (n c x : ℕ) where
+module _ {T : Table} {n c x : ℕ} where
+  pub entry-bound : T c ≡ VA → (x ≡ 255 → ⊥) → Entry T n c x → (x < n) × (T x ≡ VA → ⊥)
+  entry-bound v ne (bound i l s) = (l, s)
+  entry-bound v ne (own i e) = absurd (ne e)
+  entry-bound v ne (itself s e) = absurd (s v)
+
+  entry-itself : (T c ≡ VA → ⊥) → Entry T n c x → x ≡ c
+  entry-itself s (bound i l k) = absurd (s i)
+  entry-itself s (own i e) = absurd (s i)
+  entry-itself s (itself k e) = e
+
+module _ (T : Table) (n c x : ℕ) where
   -- Of a cell that is no variable: its own number.
-  pub fits-itself : (getD kinds c 0 ≡ 1 → ⊥) → Fits kinds n c x (eqb x c)
-  fits-itself ne = record { yes = λ e T v. itself (λ i. ne (v .kind c i)) (eqb-true x c e); no = λ e T v h. other (v .kind c) (eqb-false x c e) h }
-    where
-      other : {T : Table} → (T c ≡ VA → getD kinds c 0 ≡ 1) → (x ≡ c → ⊥) → Entry T n c x → ⊥
-      other k d (bound i l s) = ne (k i)
-      other k d (own i e) = ne (k i)
-      other k d (itself s e) = d e
+  pub fits-itself : (T c ≡ VA → ⊥) → Decides (eqb x c) (Entry T n c x)
+  fits-itself s = decides-eqb x c (itself s) (entry-itself s)
 
-  module _ (var : getD kinds c 0 ≡ 1) where
-    -- Of a variable: 255,
-    pub fits-own : x ≡ 255 → Fits kinds n c x true
-    fits-own e = record { yes = λ _ T v. own (v .var c var) e; no = λ i. absurd (true≢false i) }
-
-    -- a cell that is no variable,
-    pub fits-cell : (x ≡ 255 → ⊥) → x < n → Fits kinds n c x (not (eqb (getD kinds x 0) 1))
-    fits-cell ne l = record {
-      yes = λ e T v. bound (v .var c var) l (λ i. eqb-false (getD kinds x 0) 1 (not-true _ e) (v .kind x i));
-      no = λ e T v h. other (v .var c var) (v .var x (eqb-true (getD kinds x 0) 1 (not-false _ e))) h;
-    }
-      where
-        other : {T : Table} → T c ≡ VA → T x ≡ VA → Entry T n c x → ⊥
-        other i k (bound j m s) = s k
-        other i k (own j e) = ne e
-        other i k (itself s e) = s i
+  module _ (v : T c ≡ VA) (ne : x ≡ 255 → ⊥) where
+    -- Of a variable: 255, a cell that is no variable,
+    pub fits-cell : {b : Bool} → x < n → Decides b (T x ≡ VA) → Decides (not b) (Entry T n c x)
+    fits-cell l d = decides-iff (decides-not d) (λ s. bound v l s) (λ e. entry-bound v ne e .1)
 
     -- and nothing else.
-    pub fits-none : (x ≡ 255 → ⊥) → (x < n → ⊥) → Fits kinds n c x false
-    fits-none ne far = record { yes = λ i. absurd (false≢true i); no = λ _ T v h. other (v .var c var) h }
-      where
-        other : {T : Table} → T c ≡ VA → Entry T n c x → ⊥
-        other i (bound j l s) = far l
-        other i (own j e) = ne e
-        other i (itself s e) = s i
+    pub fits-none : (x < n → ⊥) → Decides false (Entry T n c x)
+    fits-none far = decides-no (λ e. far (entry-bound v ne e .0))
 
 -- ---- his own name
 
--- The entries below i are put, the others are as they were.
-pub record Owning (kinds list out : List ℕ) (i : ℕ) : Type 0 where
-  pub long : length out ≡ 128
-  pub own : (c : ℕ) → c < i → getD list c 0 ≡ 255 → getD out c 0 ≡ 0
-  pub other : (c : ℕ) → c < i → (getD list c 0 ≡ 255 → ⊥) → getD out c 0 ≡ getD kinds c 0
-  pub rest : (c : ℕ) → i ≤ c → getD out c 0 ≡ getD kinds c 0
+-- The word 0 is that of his own name; at a place without a word it stands as well.
+module _ (words : List ℕ) (i : ℕ) where
+  zero-there : getD (set words i 0) i 0 ≡ 0
+  zero-there = elim (decLt i (length words)) [
+    | yes h ↦ getD-set-same words i 0 0 h
+    | no h ↦ List·getD-eq-default (set words i 0) 0 {n = i} (let e = length-set words i 0 in omega arith)
+  ]
 
-module _ (kinds list : List ℕ) where
-  pub owning-none : length kinds ≡ 128 → Owning kinds list kinds 0
-  owning-none e = record { long = e; own = λ c h. absurd (omega arith); other = λ c h. absurd (omega arith); rest = λ c h. refl }
+  pub own-there : i < 128 → tableIn (set words i 0) i ≡ AT 0
+  own-there h = table-at (set words i 0) i h ∙ ap cellIn zero-there
 
-  module _ (out : List ℕ) (i : ℕ) (w : Owning kinds list out i) where
-    pub owning-put : i < 128 → getD list i 0 ≡ 255 → Owning kinds list (set out i 0) (i + 1)
-    owning-put h e =
-        let here : getD (set out i 0) i 0 ≡ 0 = getD-set-same out i 0 0 (omega (arith, w .long)) in
-        let away : (k : ℕ) → (k ≡ i → ⊥) → getD (set out i 0) k 0 ≡ getD out k 0 = λ k ne. getD-set-other out i k 0 0 ne in
-        record {
-          long = length-set out i 0 ∙ w .long;
-          own = below-more (λ k. getD list k 0 ≡ 255 → getD (set out i 0) k 0 ≡ 0) i (λ k l z. away k (λ j. omega arith) ∙ w .own k l z) (λ _. here);
-          other = below-more (λ k. (getD list k 0 ≡ 255 → ⊥) → getD (set out i 0) k 0 ≡ getD kinds k 0) i (λ k l z. away k (λ j. omega arith) ∙ w .other k l z) (λ ne. absurd (ne e));
-          rest = λ k l. away k (λ j. omega arith) ∙ w .rest k (omega arith);
-        }
+  pub own-away : (k : ℕ) → (k ≡ i → ⊥) → tableIn (set words i 0) k ≡ tableIn words k
+  own-away k ne = ap (λ (w : ℕ). cond (ltb k 128) (cellIn w) (AT 0)) (getD-set-other words i k 0 0 ne)
 
-    pub owning-skip : (getD list i 0 ≡ 255 → ⊥) → Owning kinds list out (i + 1)
-    owning-skip ne =
-        record {
-          long = w .long;
-          own = below-more (λ k. getD list k 0 ≡ 255 → getD out k 0 ≡ 0) i (w .own) (λ e. absurd (ne e));
-          other = below-more (λ k. (getD list k 0 ≡ 255 → ⊥) → getD out k 0 ≡ getD kinds k 0) i (w .other) (λ _. w .rest i (omega arith));
-          rest = λ k l. w .rest k (omega arith);
-        }
+-- The entries below i are put, the other cells are as they were.
+pub record Owning (T : Table) (list : List ℕ) (T′ : Table) (i : ℕ) : Type 0 where
+  pub own : (c : ℕ) → c < i → getD list c 0 ≡ 255 → T′ c ≡ AT 0
+  pub other : (c : ℕ) → c < i → (getD list c 0 ≡ 255 → ⊥) → T′ c ≡ T c
+  pub rest : (c : ℕ) → i ≤ c → T′ c ≡ T c
+
+module _ (T : Table) (list : List ℕ) where
+  pub owning-none : Owning T list T 0
+  owning-none = record { own = λ c h. absurd (omega arith); other = λ c h. absurd (omega arith); rest = λ c h. refl }
+
+  module _ (T′ : Table) (i : ℕ) (w : Owning T list T′ i) where
+    pub owning-put : (T″ : Table) → getD list i 0 ≡ 255 → T″ i ≡ AT 0 → ((k : ℕ) → (k ≡ i → ⊥) → T″ k ≡ T′ k) → Owning T list T″ (i + 1)
+    owning-put T″ e here away = record {
+      own = below-more (λ k. getD list k 0 ≡ 255 → T″ k ≡ AT 0) i (λ k l z. away k (λ j. omega arith) ∙ w .own k l z) (λ _. here);
+      other = below-more (λ k. (getD list k 0 ≡ 255 → ⊥) → T″ k ≡ T k) i (λ k l z. away k (λ j. omega arith) ∙ w .other k l z) (λ ne. absurd (ne e));
+      rest = λ k l. away k (λ j. omega arith) ∙ w .rest k (omega arith);
+    }
+
+    pub owning-skip : (getD list i 0 ≡ 255 → ⊥) → Owning T list T′ (i + 1)
+    owning-skip ne = record {
+      own = below-more (λ k. getD list k 0 ≡ 255 → T′ k ≡ AT 0) i (w .own) (λ e. absurd (ne e));
+      other = below-more (λ k. (getD list k 0 ≡ 255 → ⊥) → T′ k ≡ T k) i (w .other) (λ _. w .rest i (omega arith));
+      rest = λ k l. w .rest k (omega arith);
+    }
 
     -- Past the list there is no entry.
-    pub owning-all : length list ≤ i → Owned kinds list out
+    pub owning-all : length list ≤ i → Owned T list T′
     owning-all h = record { own = λ c e. w .own c (far c e) e; rest = low }
       where
         far : (c : ℕ) → getD list c 0 ≡ 255 → c < i
         far c e = elim (decLt c i) [ yes l ↦ l | no g ↦ (let z = List·getD-eq-default list 0 {n = c} (omega arith) in absurd (omega arith)) ]
 
-        low : (c : ℕ) → (getD list c 0 ≡ 255 → ⊥) → getD out c 0 ≡ getD kinds c 0
+        low : (c : ℕ) → (getD list c 0 ≡ 255 → ⊥) → T′ c ≡ T c
         low c d = elim (decLt c i) [ yes l ↦ w .other c l d | no g ↦ w .rest c (omega arith) ]

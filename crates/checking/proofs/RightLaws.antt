@@ -10,25 +10,26 @@ use lib.ListN.{getD, List·getD-eq-default}
 use Rattle.model.specs.Message.{Message, atom, Built}
 use Rattle.model.specs.Case.{Cell, AT, VA, ONE, TWO, Table, Run, look, Reads, Part, Known, Right}
 use Rattle.model.specs.Values.{Entry, bound, own, itself, Form, RightList}
-use Rattle.model.specs.Stored.{tableAt}
+use Rattle.model.specs.Stored.{tableIn}
 use Rattle.model.proofs.Finite.{eq?}
 use Rattle.model.proofs.Read.{clash, var?}
 use Rattle.model.proofs.Rows.{no-part}
-use Rattle.model.proofs.Stored.{var-kind, cell-own, cell-other}
-use Rattle.theory.specs.Cells.{Rows, classAt}
+use Rattle.model.proofs.Stored.{cell-own, cell-other}
+use Rattle.theory.specs.Cells.{TableWords, classAt}
 use Rattle.theory.specs.Classes.{Alike, Sat}
 use Rattle.theory.specs.Level.{Mark, built}
 use Rattle.theory.proofs.Level.{class-reads}
-use Rattle.theory.proofs.Rows.{rows-beyond, rows-formed, rows-var}
+use Rattle.theory.proofs.Rows.{rows-formed, rows-var}
 use Rattle.theory.proofs.Twins.{shows-apart}
 use Rattle.classes.specs.declared.Settled.{Settled}
 use Rattle.classes.specs.Kept.{Solved}
 use Rattle.classes.specs.Upward.{Raised}
 use Rattle.classes.proofs.SolvedLaws.{solved-met}
 use Rattle.knowledge.proofs.Ground.{mark-iff-built}
-use Rattle.checking.specs.Form.{entryCell, Owned, Blank}
+use Rattle.checking.specs.Form.{entryCell, Owned}
 use Rattle.checking.specs.Follow.{Inside, Listed, Follows}
 use Rattle.checking.specs.Made.{AllMade}
+use Rattle.checking.proofs.FormLaws.{entry-bound}
 
 -- ---- the table with his own name for the entries 255
 
@@ -37,17 +38,12 @@ entry-own few h e (bound v l s) = v
 entry-own few h e (own v i) = v
 entry-own few h e (itself s i) = absurd (omega arith)
 
-entry-bound : {T : Table} {n c x : ℕ} → T c ≡ VA → (x ≡ 255 → ⊥) → Entry T n c x → (x < n) × (T x ≡ VA → ⊥)
-entry-bound v ne (bound i l s) = (l, s)
-entry-bound v ne (own i e) = absurd (ne e)
-entry-bound v ne (itself s e) = absurd (s v)
-
-module _ (n : ℕ) (K F S list out : List ℕ) (w : Rows n K F S) (blank : Blank K F S) (form : Form (tableAt K F S) n list) (o : Owned K list out) where
+module _ (n : ℕ) (words list out : List ℕ) (w : TableWords n words) (form : Form (tableIn words) n list) (o : Owned (tableIn words) list (tableIn out)) where
   abbrev T : Table
-  T = tableAt K F S
+  T = tableIn words
 
   abbrev T′ : Table
-  T′ = tableAt out F S
+  T′ = tableIn out
 
   -- Past the list there is no entry.
   past : (c : ℕ) → n ≤ c → getD list c 0 ≡ 0
@@ -56,79 +52,64 @@ module _ (n : ℕ) (K F S list out : List ℕ) (w : Rows n K F S) (blank : Blank
   own-var : (c : ℕ) → getD list c 0 ≡ 255 → T c ≡ VA
   own-var c e = elim (decLt c n) [ yes h ↦ entry-own (w .few) h e (form .entries c h) | no h ↦ (let z = past c (omega arith) in absurd (omega arith)) ]
 
-  own-cell : (c : ℕ) → getD list c 0 ≡ 255 → T′ c ≡ AT 0
-  own-cell c e = let (f, s) = blank c (var-kind (getD K c 0) (getD F c 0) (getD S c 0) (own-var c e)) in rw (o .own c e, f, s)
-
-  rest-cell : (c : ℕ) → (getD list c 0 ≡ 255 → ⊥) → T′ c ≡ T c
-  rest-cell c ne = rw (o .rest c ne)
-
   -- A variable of the new table is one of the old, with another entry.
   var-entry : (v : ℕ) → T′ v ≡ VA → getD list v 0 ≡ 255 → ⊥
-  var-entry v i e = let z = own-cell v e in clash (cc)
+  var-entry v i e = let z = o .own v e in clash (cc)
 
-  pub rows-own : Rows n out F S
-  rows-own = record { few = w .few; known = known; bytes = w .bytes; lower = lower; beyond = beyond }
+  pub words-own : TableWords n out
+  words-own = record { few = w .few; lower = lower; beyond = λ c h. o .rest c (λ e. let z = past c h in omega arith) ∙ w .beyond c h }
     where
-      known : (c : ℕ) → getD out c 0 ≤ 4
-      known c = elim (eq? (getD list c 0) 255) [ inl e ↦ (let z = o .own c e in omega arith) | inr ne ↦ (let z = o .rest c ne in let y = w .known c in omega arith) ]
-
       lower : (c d : ℕ) → Part (T′ c) d → d < c
       lower c d p = elim (eq? (getD list c 0) 255) [
-        | inl e ↦ absurd (no-part (subst (λ k. Part k d) (own-cell c e) p))
-        | inr ne ↦ w .lower c d (subst (λ k. Part k d) (rest-cell c ne) p)
+        | inl e ↦ absurd (no-part (subst (λ k. Part k d) (o .own c e) p))
+        | inr ne ↦ w .lower c d (subst (λ k. Part k d) (o .rest c ne) p)
       ]
 
-      beyond : (c : ℕ) → n ≤ c → (getD out c 0 ≡ 0) × (getD F c 0 ≡ 0) × (getD S c 0 ≡ 0)
-      beyond c h =
-          let z = past c h in
-          let (k, f, s) = w .beyond c h in
-          (o .rest c (λ e. omega arith) ∙ k, f, s)
-
-  pub inside-own : Inside n (tableAt out F S) list
+  pub inside-own : Inside n (tableIn out) list
   inside-own v i =
       let ne = var-entry v i in
-      let u : T v ≡ VA = sym (rest-cell v ne) ∙ i in
+      let u : T v ≡ VA = sym (o .rest v ne) ∙ i in
       let (l, s) = entry-bound u ne (form .entries v (rows-var w v u)) in
-      (l, λ j. s (sym (rest-cell (getD list v 0) (var-entry (getD list v 0) j)) ∙ j))
+      (l, λ j. s (sym (o .rest (getD list v 0) (var-entry (getD list v 0) j)) ∙ j))
 
   -- The messages that follow the list are the same.
   name : T 128 ≡ AT 0
-  name = rows-beyond w 128 (w .few)
+  name = w .beyond 128 (w .few)
 
   own-shown : (m : ℕ → Message) → Reads T m m → (c : ℕ) → getD list c 0 ≡ 255 → m (entryCell list c) ≡ atom 0
   own-shown m mr c e = ap m (cell-own (getD list c 0) e) ∙ (mr 128 ∙ ap (look (m 128) m) name)
 
-  pub reads-own : (m : ℕ → Message) → Reads T m m → ((v : ℕ) → T v ≡ VA → m v ≡ m (entryCell list v)) → Reads (tableAt out F S) m m × Listed (tableAt out F S) list m
+  pub reads-own : (m : ℕ → Message) → Reads T m m → ((v : ℕ) → T v ≡ VA → m v ≡ m (entryCell list v)) → Reads (tableIn out) m m × Listed (tableIn out) list m
   reads-own m mr l = (
     λ c. elim (eq? (getD list c 0) 255) [
-      | inl e ↦ l c (own-var c e) ∙ (own-shown m mr c e ∙ sym (ap (look (m c) m) (own-cell c e)))
-      | inr ne ↦ mr c ∙ sym (ap (look (m c) m) (rest-cell c ne))
+      | inl e ↦ l c (own-var c e) ∙ (own-shown m mr c e ∙ sym (ap (look (m c) m) (o .own c e)))
+      | inr ne ↦ mr c ∙ sym (ap (look (m c) m) (o .rest c ne))
     ],
-    λ v i. (let ne = var-entry v i in l v (sym (rest-cell v ne) ∙ i) ∙ ap m (cell-other (getD list v 0) ne)),
+    λ v i. (let ne = var-entry v i in l v (sym (o .rest v ne) ∙ i) ∙ ap m (cell-other (getD list v 0) ne)),
   )
 
-  pub own-reads : (ev : Run) (m : ℕ → Message) → Reads (tableAt out F S) m m → Listed (tableAt out F S) list m → Right ev m → RightList T ev (entryCell list)
+  pub own-reads : (ev : Run) (m : ℕ → Message) → Reads (tableIn out) m m → Listed (tableIn out) list m → Right ev m → RightList T ev (entryCell list)
   own-reads ev m mr l right = (m, reads, at, right)
     where
       reads : Reads T m m
       reads c = elim (eq? (getD list c 0) 255) [
         | inl e ↦ sym (ap (look (m c) m) (own-var c e))
-        | inr ne ↦ mr c ∙ ap (look (m c) m) (rest-cell c ne)
+        | inr ne ↦ mr c ∙ ap (look (m c) m) (o .rest c ne)
       ]
 
       at : (v : ℕ) → T v ≡ VA → m v ≡ m (entryCell list v)
       at v i = elim (eq? (getD list v 0) 255) [
-        | inl e ↦ mr v ∙ (ap (look (m v) m) (own-cell v e) ∙ sym (own-shown m reads v e))
-        | inr ne ↦ l v (rest-cell v ne ∙ i) ∙ sym (ap m (cell-other (getD list v 0) ne))
+        | inl e ↦ mr v ∙ (ap (look (m v) m) (o .own v e) ∙ sym (own-shown m reads v e))
+        | inr ne ↦ l v (o .rest v ne ∙ i) ∙ sym (ap m (cell-other (getD list v 0) ne))
       ]
 
 -- ---- the classes of the cells that show one message
 
-module _ (n : ℕ) (K F S : List ℕ) (w : Rows n K F S) (rep : List ℕ) (solved : Solved n (tableAt K F S) rep) where
-  module _ (list : List ℕ) (inside : Inside n (tableAt K F S) list) (sat : (m : ℕ → Message) → Reads (tableAt K F S) m m → Listed (tableAt K F S) list m ↔ Sat (classAt rep) m)
-      (up : (c d : ℕ) → Alike (classAt rep) (tableAt K F S c) (tableAt K F S d) → classAt rep c ≡ classAt rep d) where
+module _ (n : ℕ) (words : List ℕ) (w : TableWords n words) (rep : List ℕ) (solved : Solved n (tableIn words) rep) where
+  module _ (list : List ℕ) (inside : Inside n (tableIn words) list) (sat : (m : ℕ → Message) → Reads (tableIn words) m m → Listed (tableIn words) list m ↔ Sat (classAt rep) m)
+      (up : (c d : ℕ) → Alike (classAt rep) (tableIn words c) (tableIn words d) → classAt rep c ≡ classAt rep d) where
     abbrev U : Table
-    U = tableAt K F S
+    U = tableIn words
 
     abbrev cls : ℕ → ℕ
     cls = classAt rep
@@ -167,37 +148,37 @@ module _ (n : ℕ) (K F S : List ℕ) (w : Rows n K F S) (rep : List ℕ) (solve
           mark-iff-built U cls ev p (rows-formed w) (solved .kept .reps .idem) m mr s (λ d v. absurd (bound-class d v)) (λ d e i. inl (one-class m mr s d e i)) c
 
       -- and the list is right exactly if all that is to be made is marked.
-      pub made-right : AllMade (tableAt K F S) rep ev true → (m : ℕ → Message) × Reads (tableAt K F S) m m × Listed (tableAt K F S) list m × Right ev m
+      pub made-right : AllMade (tableIn words) rep ev true → (m : ℕ → Message) × Reads (tableIn words) m m × Listed (tableIn words) list m × Right ev m
       made-right a =
           let (τ, g, mr, s) = solved-met n U rep solved (λ y. atom 0) in
           (τ, mr, sat τ mr .1 s, record { makes = λ p t e. mark-built τ mr s p t .0 (a .yes refl p t e) })
 
-      pub made-wrong : AllMade (tableAt K F S) rep ev false → (m : ℕ → Message) → Reads (tableAt K F S) m m → Listed (tableAt K F S) list m → Right ev m → ⊥
+      pub made-wrong : AllMade (tableIn words) rep ev false → (m : ℕ → Message) → Reads (tableIn words) m m → Listed (tableIn words) list m → Right ev m → ⊥
       made-wrong a m mr l right =
           let (p, t, e, no-mark) = a .no refl in
           no-mark (mark-built m mr (sat m mr .0 l) p t .1 (right .makes p t e))
 
 -- ---- the answer
 
-module _ (n : ℕ) (K F S list out : List ℕ) (w : Rows n K F S) (blank : Blank K F S) (form : Form (tableAt K F S) n list) (o : Owned K list out) (ev : Run)
-    (r : Settled) (f : Follows n (tableAt out F S) list r) where
+module _ (n : ℕ) (words list out : List ℕ) (w : TableWords n words) (form : Form (tableIn words) n list) (o : Owned (tableIn words) list (tableIn out)) (ev : Run)
+    (r : Settled) (f : Follows n (tableIn out) list r) where
   -- A list that comes round.
-  pub right-round : r .ok ≡ false → RightList (tableAt K F S) ev (entryCell list) → ⊥
-  right-round e (m, mr, l, right) = let (mr′, l′) = reads-own n K F S list out w blank form o m mr l in f .no e m mr′ l′
+  pub right-round : r .ok ≡ false → RightList (tableIn words) ev (entryCell list) → ⊥
+  right-round e (m, mr, l, right) = let (mr′, l′) = reads-own n words list out w form o m mr l in f .no e m mr′ l′
 
-  module _ (ok : r .ok ≡ true) (rep : List ℕ) (u : Raised n (tableAt out F S) (r .rep) rep) where
+  module _ (ok : r .ok ≡ true) (rep : List ℕ) (u : Raised n (tableIn out) (r .rep) rep) where
     abbrev Y : Table
-    Y = tableAt out F S
+    Y = tableIn out
 
     met : (m : ℕ → Message) → Reads Y m m → Listed Y list m ↔ Sat (classAt rep) m
     met m mr = (λ l. u .sat m mr .0 (f .sat ok m mr .0 l), λ s. f .sat ok m mr .1 (u .sat m mr .1 s))
 
-    pub right-yes : AllMade (tableAt out F S) rep ev true → RightList (tableAt K F S) ev (entryCell list)
+    pub right-yes : AllMade (tableIn out) rep ev true → RightList (tableIn words) ev (entryCell list)
     right-yes a =
-        let (m, mr, l, right) = made-right n out F S (rows-own n K F S list out w blank form o) rep (u .solved) list (inside-own n K F S list out w blank form o) met (u .up) ev a in
-        own-reads n K F S list out w blank form o ev m mr l right
+        let (m, mr, l, right) = made-right n out (words-own n words list out w form o) rep (u .solved) list (inside-own n words list out w form o) met (u .up) ev a in
+        own-reads n words list out w form o ev m mr l right
 
-    pub right-no : AllMade (tableAt out F S) rep ev false → RightList (tableAt K F S) ev (entryCell list) → ⊥
+    pub right-no : AllMade (tableIn out) rep ev false → RightList (tableIn words) ev (entryCell list) → ⊥
     right-no a (m, mr, l, right) =
-        let (mr′, l′) = reads-own n K F S list out w blank form o m mr l in
-        made-wrong n out F S (rows-own n K F S list out w blank form o) rep (u .solved) list (inside-own n K F S list out w blank form o) met (u .up) ev a m mr′ l′ right
+        let (mr′, l′) = reads-own n words list out w form o m mr l in
+        made-wrong n out (words-own n words list out w form o) rep (u .solved) list (inside-own n words list out w form o) met (u .up) ev a m mr′ l′ right

@@ -7,7 +7,7 @@ use lib.ListN.{length, getD}
 use Rattle.model.specs.Case.{File, tableOf}
 use Rattle.model.specs.Values.{Entry}
 use Rattle.model.specs.Format.{Reading, readFile}
-use Rattle.model.specs.Replies.{FormOf, RightOf, RightListed}
+use Rattle.model.specs.Replies.{FormOf, RightOf, RightListed, FileRefused}
 use Rattle.checking.specs.declared.Judged.{Judged}
 use Rattle.checking.specs.declared.Judged.the-variants.{Refused, Wrong, Right}
 
@@ -18,7 +18,7 @@ EntryOf f list c = Entry (tableOf (f .cells)) (length (f .cells)) c (getD list c
 -- The reply to a file and a value list.
 pub record CheckPromise (file list : List ℕ) (reply : Judged) : Type 0 where
   -- a file that is refused is refused so
-  pub refused : (number place : ℕ) → readFile file ≡ Reading.refused number place → reply ≡ Refused number place
+  pub refused : FileRefused file λ n p. reply ≡ Refused n p
   -- refusal 10 if the list's length is not the cell count; place: the cell count
   pub size : (f : File) → readFile file ≡ Reading.accepted f → (length list ≡ length (f .cells) → ⊥) → reply ≡ Refused 10 (length (f .cells))
   -- else refusal 10 if an entry has not the form; place: the number of the first such entry

@@ -1,37 +1,41 @@
 // The form of a value list.
+use cells::Cell;
+use cells::Table;
+use cells::is_variable;
+use cells::word_of;
 ghost use mathlib.Core.Path.{_≡_};
-ghost use Prim.Native.Nat.{_≤_, _<_};
+ghost use Prim.Native.Nat.{_≤_};
 ghost use lib.ListN.{length};
-ghost use Rattle.checking.specs.Form.{Fits, FirstBad, Owned};
+ghost use Rattle.model.specs.Stored.{tableIn};
+ghost use Rattle.model.specs.Values.{Entry};
+ghost use Rattle.theory.specs.Decides.{Decides};
+ghost use Rattle.checking.specs.Form.{FirstBad, Owned};
 
 // Has the entry x of the cell c the form: for a variable a cell that is no variable, or 255; for any other cell its own number?
-fn fits(kind: &[u8; 128], n: usize, c: usize, x: u8) -> bool
-    requires { ⌜ n ≤ 128 ⌝ }
-    requires { ⌜ c < n ⌝ }
-    ensures { λ r. ⌜ Fits (now (kind .entry)) n c x r ⌝ }
+fn fits(table: &Table, n: usize, c: usize, x: u8) -> bool
+    ensures { λ r. ⌜ Decides r (Entry (tableIn (now (table .entry))) n c x) ⌝ }
 {
     let i = x as usize;
-    if kind[c] != 1 {
+    if !is_variable(table, c) {
         return i == c;
     }
     if i == 255 {
         return true;
     }
     if i < n {
-        return kind[i] != 1;
+        return !is_variable(table, i);
     }
     false
 }
 
 // The first entry of bad form, or n.
-pub fn first_bad(kind: &[u8; 128], n: usize, list: &[u8]) -> usize
-    requires { ⌜ n ≤ 128 ⌝ }
+pub fn first_bad(table: &Table, n: usize, list: &[u8]) -> usize
     requires { ⌜ length (now list) ≡ n ⌝ }
-    ensures { λ r. ⌜ FirstBad (now (kind .entry)) n (now (list .entry)) r ⌝ }
+    ensures { λ r. ⌜ FirstBad (tableIn (now (table .entry))) n (now (list .entry)) r ⌝ }
 {
     let mut c: usize = 0;
     while c < n {
-        if !fits(kind, n, c, list[c]) {
+        if !fits(table, n, c, list[c]) {
             return c;
         }
         c += 1;
@@ -39,18 +43,16 @@ pub fn first_bad(kind: &[u8; 128], n: usize, list: &[u8]) -> usize
     n
 }
 
-// The kinds with his own name for each variable whose entry is 255.
-pub fn put_own(kind: &[u8; 128], n: usize, list: &[u8]) -> [u8; 128]
-    requires { ⌜ n ≤ 128 ⌝ }
-    requires { ⌜ length (now kind) ≡ 128 ⌝ }
-    requires { ⌜ length (now list) ≡ n ⌝ }
-    ensures { λ r. ⌜ Owned (now (kind .entry)) (now (list .entry)) r ⌝ }
+// The table with his own name for each cell whose entry is 255.
+pub fn put_own(table: &Table, list: &[u8]) -> Table
+    requires { ⌜ length (now list) ≤ 128 ⌝ }
+    ensures { λ r. ⌜ Owned (tableIn (now (table .entry))) (now (list .entry)) (tableIn r) ⌝ }
 {
-    let mut out = *kind;
+    let mut out = *table;
     let mut c: usize = 0;
-    while c < n {
+    while c < list.len() {
         if list[c] == 255 {
-            out[c] = 0;
+            out[c] = word_of(Cell::Atom(0));
         }
         c += 1;
     }

@@ -9,10 +9,8 @@ use lib.Seq.{getD-set-same, getD-set-other}
 use lib.Dec.{eqb}
 use borrow.Author.Count.{below-more}
 use borrow.Author.Tests.{eq-eqb, ne-eqb, eqb-true}
-use Rattle.model.specs.Case.{Table}
-use Rattle.model.specs.Stored.{tableAt}
+use Rattle.model.specs.Case.{VA, Table}
 use Rattle.model.proofs.Finite.{eq?}
-use Rattle.model.proofs.Stored.{var-kind, kind-var}
 use Rattle.theory.specs.Cells.{classAt}
 use Rattle.theory.specs.Classes.{Joins}
 use Rattle.theory.proofs.Classes.{sat-joins}
@@ -61,12 +59,12 @@ module _ (rep : List ℕ) (o r : ℕ) where
   relabel-whole out n h w = record { long = w .long; names = λ c. w .done (min c 128) (omega arith) }
 
 -- Which of two representatives stands.
-module _ (kinds firsts seconds : List ℕ) (a b : ℕ) where
-  pub stands-var : getD kinds b 0 ≡ 1 → Stands (tableAt kinds firsts seconds) a b
-  stands-var v = λ s. absurd (s (kind-var (getD kinds b 0) (getD firsts b 0) (getD seconds b 0) v))
+module _ (T : Table) (a b : ℕ) where
+  pub stands-var : T b ≡ VA → Stands T a b
+  stands-var v = λ s. absurd (s v)
 
-  pub stands-low : (getD kinds a 0 ≡ 1 → ⊥) → a ≤ b → Stands (tableAt kinds firsts seconds) a b
-  stands-low s h = λ _. (λ v. s (var-kind (getD kinds a 0) (getD firsts a 0) (getD seconds a 0) v), h)
+  pub stands-low : (T a ≡ VA → ⊥) → a ≤ b → Stands T a b
+  stands-low s h = λ _. (s, h)
 
 -- Two classes in one.
 module _ (n : ℕ) (T : Table) (rep : List ℕ) (few : n ≤ 128) (K : Kept n T rep) where

@@ -4,6 +4,7 @@ pub mod JoinLaws
 pub mod DifferLaws
 pub mod Tags
 pub mod TwinLaws
+pub mod WordLaws
 pub mod SolvedLaws
 pub mod SettleLaws
 pub mod PeelLaws

@@ -9,13 +9,11 @@ use lib.ListN.{length, getD, set, length-set, replicate, length-replicate}
 use lib.Seq.{getD-set-same, getD-set-other}
 use borrow.Author.Count.{below-more}
 use Rattle.model.specs.Case.{Table}
-use Rattle.model.specs.Reduce.{kind}
 use Rattle.model.proofs.Finite.{eq?}
 use Rattle.model.proofs.Rows.{zeros}
 use Rattle.theory.specs.Classes.{Alike}
-use Rattle.classes.specs.Links.{keyOf, Linkable, Behind, Linked, Leads, Downward}
-use Rattle.classes.proofs.DifferLaws.{alike-kind}
-use Rattle.classes.proofs.KeyLaws.{alike-key}
+use Rattle.classes.specs.Links.{keyOf, Parted, Linkable, Behind, Linked, Leads, Downward}
+use Rattle.classes.proofs.KeyLaws.{alike-key, alike-parted}
 
 -- What holds of the entry i and of all others holds of the row with v at i.
 set-each : (P : ℕ → ℕ → Type 0) (l : List ℕ) (i v : ℕ) → i < length l → ((j : ℕ) → (j ≡ i → ⊥) → P j (getD l j 0)) → P i v →
@@ -64,9 +62,9 @@ module _ {T : Table} {cls : ℕ → ℕ} where
       }
 
   -- The cells that stand for their class and are alike c are linkable and have its key.
-  behind-apart : {c k hi at : ℕ} → 2 ≤ kind (T c) → Behind T cls k hi at → k ≡ keyOf cls (T c) → (d : ℕ) → at ≤ d → d < hi → cls d ≡ d →
+  behind-apart : {c k hi at : ℕ} → Parted (T c) → Behind T cls k hi at → k ≡ keyOf cls (T c) → (d : ℕ) → at ≤ d → d < hi → cls d ≡ d →
       Alike cls (T c) (T d) → ⊥
-  behind-apart parts b e d l h own a = b .none d h l (own, omega (arith, alike-kind a)) (sym (alike-key a) ∙ sym e)
+  behind-apart parts b e d l h own a = b .none d h l (own, alike-parted a parts) (sym (alike-key a) ∙ sym e)
 
   pub linked-none : {tops links : List ℕ} → Downward 0 tops links → Linked T cls 0 tops links
   linked-none w =

@@ -2,8 +2,8 @@
 use mathlib.Core.Path.{_≡_, refl, sym, _∙_, ap, subst}
 use mathlib.Core.Bool.{Bool, true, false, cond, not, true≢false, false≢true}
 use mathlib.Core.List.{List}
-use mathlib.Core.Logic.{inl, inr}
-use Prim.Native.Nat.{ℕ, zero, suc, _+_, _≤_, _<_, min}
+use mathlib.Core.Logic.{_↔_, inl, inr}
+use Prim.Native.Nat.{ℕ, _+_, _≤_, _<_, min}
 use native.Mathlib.Omega.{arith}
 use native.Mathlib.Decide.{decLt}
 use native.Mathlib.Nat.{min-eq-left, min-eq-right}
@@ -11,56 +11,53 @@ use lib.Dec.{eqb}
 use lib.ListN.{length, getD, set, length-set, replicate, length-replicate}
 use borrow.Author.Count.{below-more}
 use borrow.Author.Tests.{eq-eqb, ne-eqb}
-use Rattle.model.specs.Message.{One, Two}
-use Rattle.model.specs.Case.{ONE, TWO, Table, Part, in-arg, in-left, in-right}
-use Rattle.model.specs.Stored.{cellAt, tableAt}
+use Rattle.model.specs.Case.{Cell, AT, VA, ONE, TWO, Table, Part, in-arg, in-left, in-right}
+use Rattle.model.specs.Stored.{tableIn}
+use Rattle.model.proofs.Read.{clash}
 use Rattle.model.proofs.Rows.{zeros}
-use Rattle.theory.specs.Cells.{Rows, On, classAt}
+use Rattle.theory.specs.Cells.{TableWords, On, classAt}
 use Rattle.theory.proofs.Answers.{round-no}
 use Rattle.theory.proofs.Classes.{all-done}
-use Rattle.theory.proofs.Rows.{rows-beyond, rows-part}
+use Rattle.theory.proofs.Rows.{rows-part}
+use Rattle.cells.specs.Cells.{partsOf}
+use Rattle.cells.specs.declared.Parts.{Parts}
+use Rattle.cells.specs.declared.Parts.the-variants as parts
 use Rattle.classes.specs.Kept.{Kept, Finite, Unmet}
 use Rattle.classes.specs.Peel.{Done, classTable, Peeled, Fresh, undone, Peels}
 use Rattle.classes.proofs.Count.{count-lt}
 use Rattle.theory.proofs.MarkRows.{set-cases, set-on, set-kept}
 
--- ---- the parts of a cell, by its kind
-parts-one : (marks : List ℕ) (g : One) (a : ℕ) → On marks a → Done marks (ONE g a)
-parts-one marks g a h d in-arg = h
+-- ---- the parts of a cell
 
-parts-two : (marks : List ℕ) (t : Two) (a b : ℕ) → On marks a → On marks b → Done marks (TWO t a b)
-parts-two marks t a b h i d in-left = h
-parts-two marks t a b h i d in-right = i
+-- The parts p of a cell that was read from the table at x, which is y.
+pub parts-read : (T : Table) {p p′ : Parts} {k : Cell} {x y : ℕ} → p ≡ p′ → p ≡ partsOf k → k ≡ T x → x ≡ y → p′ ≡ partsOf (T y)
+parts-read T e i j z = sym e ∙ i ∙ ap partsOf (j ∙ ap T z)
 
 module _ (marks : List ℕ) where
-  pub done-none : (k a b : ℕ) → k < 2 → Done marks (cellAt k a b)
-  done-none zero a b h = λ d p. elim p [ ]
-  done-none (suc zero) a b h = λ d p. elim p [ ]
-  done-none (suc (suc k)) a b h = absurd (omega arith)
+  pub done-none : (k : Cell) → parts.None ≡ partsOf k → Done marks k
+  done-none (AT n) e d p = elim p [ ]
+  done-none VA e d p = elim p [ ]
+  done-none (ONE g a) e d p = clash (cc)
+  done-none (TWO h l r) e d p = clash (cc)
 
-  pub done-app : (k a b : ℕ) → k ≡ 4 → On marks b → Done marks (cellAt k a b)
-  done-app k a b e h = rw e (parts-one marks _ b h)
+  pub done-one : (k : Cell) (a : ℕ) → parts.One a ≡ partsOf k → On marks a ↔ Done marks k
+  done-one (AT n) a e = clash (cc)
+  done-one VA a e = clash (cc)
+  done-one (ONE g b) a e = (λ o d p. subst (On marks) (cc (only p)) o, λ w. w a (subst (λ x. Part (ONE g b) x) (cc) in-arg))
+    where
+      only : {d : ℕ} → Part (ONE g b) d → d ≡ b
+      only in-arg = refl
+  done-one (TWO h l r) a e = clash (cc)
 
-  pub done-two : (k a b : ℕ) → 2 ≤ k → k ≤ 4 → (k ≡ 4 → ⊥) → On marks a → On marks b → Done marks (cellAt k a b)
-  done-two zero a b l m ne h i = absurd (omega arith)
-  done-two (suc zero) a b l m ne h i = absurd (omega arith)
-  done-two (suc (suc zero)) a b l m ne h i = parts-two marks _ a b h i
-  done-two (suc (suc (suc zero))) a b l m ne h i = parts-two marks _ a b h i
-  done-two (suc (suc (suc (suc k)))) a b l m ne h i = absurd (omega arith)
-
-  pub done-second : (k a b : ℕ) → 2 ≤ k → Done marks (cellAt k a b) → On marks b
-  done-second zero a b l h = absurd (omega arith)
-  done-second (suc zero) a b l h = absurd (omega arith)
-  done-second (suc (suc zero)) a b l h = h b in-right
-  done-second (suc (suc (suc zero))) a b l h = h b in-right
-  done-second (suc (suc (suc (suc k)))) a b l h = h b in-arg
-
-  pub done-first : (k a b : ℕ) → 2 ≤ k → k ≤ 4 → (k ≡ 4 → ⊥) → Done marks (cellAt k a b) → On marks a
-  done-first zero a b l m ne h = absurd (omega arith)
-  done-first (suc zero) a b l m ne h = absurd (omega arith)
-  done-first (suc (suc zero)) a b l m ne h = h a in-left
-  done-first (suc (suc (suc zero))) a b l m ne h = h a in-left
-  done-first (suc (suc (suc (suc k)))) a b l m ne h = absurd (omega arith)
+  pub done-two : (k : Cell) (l r : ℕ) → parts.Two l r ≡ partsOf k → (On marks l × On marks r) ↔ Done marks k
+  done-two (AT n) l r e = clash (cc)
+  done-two VA l r e = clash (cc)
+  done-two (ONE g a) l r e = clash (cc)
+  done-two (TWO h a b) l r e = (both, λ w. (subst (On marks) (cc) (w a in-left), subst (On marks) (cc) (w b in-right)))
+    where
+      both : On marks l × On marks r → Done marks (TWO h a b)
+      both (o, i) d in-left = subst (On marks) (cc) o
+      both (o, i) d in-right = subst (On marks) (cc) i
 
 -- ---- one more mark
 unmarked : (l : List ℕ) (x : ℕ) → (On l x → ⊥) → not (eqb (getD l x 0) 1) ≡ true
@@ -145,41 +142,41 @@ module _ (S : Table) (marks : List ℕ) where
         }
 
 -- ---- what the marks say of the classes
-module _ {n : ℕ} {kinds firsts seconds rep : List ℕ} (w : Rows n kinds firsts seconds) (K : Kept n (tableAt kinds firsts seconds) rep) (marks : List ℕ) where
+module _ {n : ℕ} {words rep : List ℕ} (w : TableWords n words) (K : Kept n (tableIn words) rep) (marks : List ℕ) where
   abbrev S : Table
-  S = classTable (tableAt kinds firsts seconds) rep
+  S = classTable (tableIn words) rep
 
   -- The cells beyond the table's are as the first of them.
   class-min : (c : ℕ) → classAt rep c ≡ classAt rep (min c n)
   class-min c = elim (decLt c n) [
     | yes h ↦ ap (classAt rep) (sym (min-eq-left (le h)))
-    | no h ↦ K .names c n 0 (rows-beyond w c (omega arith)) (rows-beyond w n (omega arith)) ∙ ap (classAt rep) (sym (min-eq-right (omega arith)))
+    | no h ↦ K .names c n 0 (w .beyond c (omega arith)) (w .beyond n (omega arith)) ∙ ap (classAt rep) (sym (min-eq-right (omega arith)))
   ]
     where
       le : c < n → c ≤ n
       le h = omega arith
 
   part-min : (c d : ℕ) → Part (S c) d → Part (S (min c n)) d
-  part-min c d = subst (λ k. Part (tableAt kinds firsts seconds k) d) (class-min c)
+  part-min c d = subst (λ k. Part (tableIn words k) d) (class-min c)
 
   part-low : (c d : ℕ) → Part (S c) d → min d n ≡ d
   part-low c d p = let (h, i) = rows-part w (classAt rep c) d p in min-eq-left (omega arith)
 
-  pub peeled-finite : Peeled S marks → ((c : ℕ) → c < n + 1 → On marks c) → Finite (tableAt kinds firsts seconds) (classAt rep)
+  pub peeled-finite : Peeled S marks → ((c : ℕ) → c < n + 1 → On marks c) → Finite (tableIn words) (classAt rep)
   peeled-finite P all = (
     λ c. P .rank (min c n),
     λ c d p. subst (λ x. P .rank x < P .rank (min c n)) (sym (part-low c d p))
         (P .lower (min c n) d (all (min c n) (omega arith)) (part-min c d p) .1),
   )
 
-  pub peeled-round : ((c : ℕ) → c < n + 1 → Done marks (S c) → On marks c) → (c : ℕ) → c < n + 1 → (On marks c → ⊥) → Unmet (tableAt kinds firsts seconds) (classAt rep)
+  pub peeled-round : ((c : ℕ) → c < n + 1 → Done marks (S c) → On marks c) → (c : ℕ) → c < n + 1 → (On marks c → ⊥) → Unmet (tableIn words) (classAt rep)
   peeled-round shut c h no-c =
-      round-no (tableAt kinds firsts seconds) (classAt rep) (λ c. On marks (min c n))
-      (λ c parts. shut (min c n) (omega arith) (λ d p. subst (On marks) (part-low (min c n) d p) (parts d (subst (λ k. Part (tableAt kinds firsts seconds k) d) (sym (class-min c)) p))))
+      round-no (tableIn words) (classAt rep) (λ c. On marks (min c n))
+      (λ c parts. shut (min c n) (omega arith) (λ d p. subst (On marks) (part-low (min c n) d p) (parts d (subst (λ k. Part (tableIn words k) d) (sym (class-min c)) p))))
       c (λ o. no-c (subst (On marks) (min-eq-left (omega arith)) o))
 
   -- Such classes come round.
-  pub peeled-endless : ((c : ℕ) → c < n + 1 → Done marks (S c) → On marks c) → (c : ℕ) → c < n + 1 → (On marks c → ⊥) → Finite (tableAt kinds firsts seconds) (classAt rep) → ⊥
+  pub peeled-endless : ((c : ℕ) → c < n + 1 → Done marks (S c) → On marks c) → (c : ℕ) → c < n + 1 → (On marks c → ⊥) → Finite (tableIn words) (classAt rep) → ⊥
   peeled-endless shut c h no-c (rank, ranked) =
       no-c (subst (On marks) (min-eq-left (omega arith)) (all-done S rank ranked (λ c. On marks (min c n))
-      (λ c parts. shut (min c n) (omega arith) (λ d p. subst (On marks) (part-low (min c n) d p) (parts d (subst (λ k. Part (tableAt kinds firsts seconds k) d) (sym (class-min c)) p)))) c))
+      (λ c parts. shut (min c n) (omega arith) (λ d p. subst (On marks) (part-low (min c n) d p) (parts d (subst (λ k. Part (tableIn words k) d) (sym (class-min c)) p)))) c))

@@ -8,14 +8,14 @@ use native.Mathlib.Omega.{arith}
 use native.Mathlib.Decide.{decLt}
 use Rattle.model.specs.Message.{Message}
 use Rattle.model.specs.Case.{Cell, AT, VA, Table, Reads, Part, in-arg, in-left, in-right}
-use Rattle.model.specs.Stored.{tableAt}
+use Rattle.model.specs.Stored.{tableIn}
 use Rattle.model.proofs.Finite.{eq?}
-use Rattle.theory.specs.Cells.{Rows, classAt}
+use Rattle.theory.specs.Cells.{TableWords, classAt}
 use Rattle.theory.specs.Classes.{Alike, Closed, Sat}
 use Rattle.theory.proofs.Classes.{forced}
-use Rattle.theory.proofs.Rows.{rows-beyond, rows-part}
-use Rattle.classes.specs.declared.Diff.{Diff}
-use Rattle.classes.specs.declared.Diff.the-variants.{Same, Clash, Parts}
+use Rattle.theory.proofs.Rows.{rows-part}
+use Rattle.classes.specs.declared.alike.Diff.{Diff}
+use Rattle.classes.specs.declared.alike.Diff.the-variants.{Same, Clash, Parts}
 use Rattle.classes.specs.Kept.{Kept, classCount, Unmet, Joined}
 use Rattle.classes.specs.Differ.{Facing, args, lefts, rights, Told}
 use Rattle.classes.specs.Settle.{Shut, Asks, Moved}
@@ -27,10 +27,10 @@ facing-parts lefts = (in-left, in-left)
 facing-parts rights = (in-right, in-right)
 
 -- What a comparison with the cell that stands for the class asks for.
-module _ {n : ℕ} {kinds firsts seconds rep : List ℕ} (w : Rows n kinds firsts seconds) (K : Kept n (tableAt kinds firsts seconds) rep) (c : ℕ)
-    (s : tableAt kinds firsts seconds c ≡ VA → ⊥) where
+module _ {n : ℕ} {words rep : List ℕ} (w : TableWords n words) (K : Kept n (tableIn words) rep) (c : ℕ)
+    (s : tableIn words c ≡ VA → ⊥) where
   abbrev T : Table
-  T = tableAt kinds firsts seconds
+  T = tableIn words
 
   force : (m : ℕ → Message) → Reads T m m → Sat (classAt rep) m → Alike m (T c) (T (classAt rep c))
   force m mr sat = forced T (classAt rep) m mr sat c s (K .reps .solid c s)
@@ -117,10 +117,10 @@ module _ {n : ℕ} {T : Table} {rep out : List ℕ} {changed : Bool} {c : ℕ} (
         }
 
 -- Cells that ask for nothing, up to the first beyond the table's: the classes are closed.
-module _ {n : ℕ} {kinds firsts seconds rep : List ℕ} (w : Rows n kinds firsts seconds) (K : Kept n (tableAt kinds firsts seconds) rep)
-    (shut : (c : ℕ) → c < n + 1 → Shut (tableAt kinds firsts seconds) (classAt rep) c) where
+module _ {n : ℕ} {words rep : List ℕ} (w : TableWords n words) (K : Kept n (tableIn words) rep)
+    (shut : (c : ℕ) → c < n + 1 → Shut (tableIn words) (classAt rep) c) where
   abbrev S : Table
-  S = tableAt kinds firsts seconds
+  S = tableIn words
 
   far : (c : ℕ) → (S c ≡ VA → ⊥) → S c ≡ AT 0 → S n ≡ AT 0 → Alike (classAt rep) (S c) (S (classAt rep c))
   far c s e i =
@@ -131,5 +131,5 @@ module _ {n : ℕ} {kinds firsts seconds rep : List ℕ} (w : Rows n kinds first
   pub shut-closed : Closed S (classAt rep)
   shut-closed c s = elim (decLt c n) [
     | yes h ↦ shut c (omega arith) s
-    | no h ↦ far c s (rows-beyond w c (omega arith)) (rows-beyond w n (omega arith))
+    | no h ↦ far c s (w .beyond c (omega arith)) (w .beyond n (omega arith))
   ]

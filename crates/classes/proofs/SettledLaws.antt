@@ -8,7 +8,7 @@ use native.Mathlib.Omega.{arith}
 use native.Mathlib.Decide.{decLt}
 use lib.ListN.{length, getD}
 use Rattle.model.specs.Message.{Message, atom}
-use Rattle.model.specs.Case.{VA, Table, Lower}
+use Rattle.model.specs.Case.{Table, Lower}
 use Rattle.model.proofs.Read.{strong, var?}
 use Rattle.theory.specs.Cells.{classAt}
 use Rattle.theory.specs.Classes.{Alike, Sat}

@@ -6,13 +6,13 @@ use native.Mathlib.Omega.{arith}
 use native.Mathlib.Decide.{decLt}
 use Rattle.model.specs.Message.{Message}
 use Rattle.model.specs.Case.{VA, Table, Reads, shown}
-use Rattle.model.specs.Stored.{tableAt}
-use Rattle.theory.specs.Cells.{Rows, Grounds, classAt}
+use Rattle.model.specs.Stored.{tableIn}
+use Rattle.theory.specs.Cells.{TableWords, Grounds, classAt}
 use Rattle.theory.specs.Classes.{Sat}
 use Rattle.theory.specs.Search.{State}
 use Rattle.theory.proofs.Classes.{ranked-reads}
 use Rattle.theory.proofs.Answers.{τ-sat, τ-reads}
-use Rattle.theory.proofs.Rows.{rows-beyond, rows-var}
+use Rattle.theory.proofs.Rows.{rows-var}
 use Rattle.classes.specs.Kept.{Kept, Solved}
 
 module _ (n : ℕ) (T : Table) (rep : List ℕ) where
@@ -31,10 +31,10 @@ module _ (n : ℕ) (T : Table) (rep : List ℕ) where
       let (τ, g) = solved-grounds w ν in
       (τ, g, τ-reads T (classAt rep) ν τ (w .closed) (w .kept .reps .idem) g, τ-sat T (classAt rep) ν τ (w .closed) (w .kept .reps .idem) g)
 
-module _ {n : ℕ} {K F S rep : List ℕ} (w : Rows n K F S) (k : Kept n (tableAt K F S) rep) where
+module _ {n : ℕ} {words rep : List ℕ} (w : TableWords n words) (k : Kept n (tableIn words) rep) where
   -- The cells beyond the table's are of one class,
   pub kept-beyond : (c : ℕ) → n ≤ c → classAt rep c ≡ classAt rep 128
-  kept-beyond c h = k .names c 128 0 (rows-beyond w c h) (rows-beyond w 128 (w .few))
+  kept-beyond c h = k .names c 128 0 (w .beyond c h) (w .beyond 128 (w .few))
 
   -- and every class is named by a cell up to 128.
   pub kept-small : (c : ℕ) → classAt rep c ≤ 128
@@ -43,5 +43,5 @@ module _ {n : ℕ} {K F S rep : List ℕ} (w : Rows n K F S) (k : Kept n (tableA
     | no h ↦ (let e = kept-beyond c (omega arith) in let l = k .reps .lowest 128 solid in omega arith)
   ]
     where
-      solid : tableAt K F S 128 ≡ VA → ⊥
+      solid : tableIn words 128 ≡ VA → ⊥
       solid v = omega (arith, rows-var w 128 v, w .few)

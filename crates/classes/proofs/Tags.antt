@@ -12,9 +12,9 @@ use native.Mathlib.Omega.{arith}
 use types.Run.{OneOf}
 use denote.Enum.Declared as declared
 use Rattle.model.proofs.Read.{clash}
-use Rattle.classes.proofs.Diff as diff
-use Rattle.classes.specs.declared.Diff.{Diff}
-use Rattle.classes.specs.declared.Diff.the-variants.{Same, Clash, Parts}
+use Rattle.classes.proofs.alike.Diff as diff
+use Rattle.classes.specs.declared.alike.Diff.{Diff}
+use Rattle.classes.specs.declared.alike.Diff.the-variants.{Same, Clash, Parts}
 
 pub tag-apart : (r : Diff) → OneOf (1 ∷ 2 ∷ []) (declared.tagOf diff.the-type r) → r ≡ Same → ⊥
 tag-apart Same h e = ⊎-elim (λ z. clash z) (λ z. absurd (omega arith)) h

@@ -6,7 +6,7 @@ use Prim.Native.Nat.{ℕ, _+_, _≤_, _<_}
 use native.Mathlib.Omega.{arith}
 use native.Mathlib.Decide.{decLt}
 use lib.ListN.{length, getD, set}
-use lib.Seq.{getD-set-same, getD-set-other}
+use lib.Seq.{getD-set-same}
 use borrow.Author.Count.{below-more}
 use Rattle.model.specs.Message.{Message, atom}
 use Rattle.model.specs.Case.{Cell, AT, VA, ONE, TWO, Table, Reads, Lower, Ground}
@@ -17,7 +17,7 @@ use Rattle.theory.specs.Classes.{Alike, atoms, ones, twos, Closed, Reps}
 use Rattle.theory.proofs.Classes.{alike-parts, alike-sym, alike-solid, list-classes}
 use Rattle.theory.proofs.Twins.{twins}
 use Rattle.classes.specs.Twins.{First, Twin, Start}
-use Rattle.classes.proofs.RowLaws.{class-low, class-high}
+use Rattle.classes.proofs.RowLaws.{class-low, class-high, class-below}
 
 pub alike-trans : {A : Type 0} {f : ℕ → A} {k k′ k″ : Cell} → Alike f k k′ → Alike f k′ k″ → Alike f k k″
 alike-trans atoms atoms = atoms
@@ -73,11 +73,8 @@ module _ (T : Table) (low : Lower T) where
       (i : ℕ) → i < c + 1 → First T (classAt (set rep c r)) i
   firsts-more rep c r long h firsts w =
       below-more (First T (classAt (set rep c r))) c
-      (λ i l. first-below (classAt rep) (classAt (set rep c r)) i (λ j g. same j (omega arith)) (same i l) (firsts i l))
-      (twin-first (classAt rep) (classAt (set rep c r)) c r same (sym (class-low (set rep c r) c h) ∙ getD-set-same rep c r 0 (omega arith)) w)
-    where
-      same : (i : ℕ) → i < c → classAt rep i ≡ classAt (set rep c r) i
-      same i l = sym (class-low rep i (omega arith)) ∙ sym (getD-set-other rep c i r 0 (λ e. omega arith)) ∙ class-low (set rep c r) i (omega arith)
+      (λ i l. first-below (classAt rep) (classAt (set rep c r)) i (λ j g. class-below rep c r h j (omega arith)) (class-below rep c r h i l) (firsts i l))
+      (twin-first (classAt rep) (classAt (set rep c r)) c r (class-below rep c r h) (sym (class-low (set rep c r) c h) ∙ getD-set-same rep c r 0 (omega arith)) w)
 
   -- The cells beyond are as cell 128.
   pub firsts-all : (rep : List ℕ) → ((c : ℕ) → 128 ≤ c → T c ≡ AT 0) → ((i : ℕ) → i < 129 → First T (classAt rep) i) → (c : ℕ) → First T (classAt rep) c

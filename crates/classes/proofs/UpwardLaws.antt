@@ -3,27 +3,25 @@ use mathlib.Core.Path.{_≡_, refl, sym, _∙_, ap, subst}
 use mathlib.Core.Bool.{Bool, true, false, cond, true≢false}
 use mathlib.Core.List.{List}
 use mathlib.Core.Logic.{inl, inr}
-use Prim.Native.Nat.{ℕ, _+_, _≤_, _<_}
+use Prim.Native.Nat.{ℕ, _+_, _<_}
 use native.Mathlib.Omega.{arith}
 use native.Mathlib.Decide.{decLt}
 use lib.Dec.{eqb}
 use lib.ListN.{getD, set}
 use borrow.Author.Count.{below-more}
 use borrow.Author.Tests.{eq-eqb, ne-eqb}
-use Rattle.model.specs.Message.{App, Pair, Seal, Message, atom}
+use Rattle.model.specs.Message.{Message, atom}
 use Rattle.model.specs.Case.{Cell, AT, VA, ONE, TWO, Table, Reads}
-use Rattle.model.specs.Reduce.{kind}
-use Rattle.model.specs.Stored.{tableAt}
+use Rattle.model.specs.Stored.{tableIn}
 use Rattle.model.proofs.Finite.{eq?}
 use Rattle.model.proofs.Steps.{size}
-use Rattle.theory.specs.Cells.{Rows, classAt}
+use Rattle.theory.specs.Cells.{TableWords, classAt}
 use Rattle.theory.specs.Classes.{Alike, atoms, Closed, Sat}
 use Rattle.theory.proofs.Classes.{alike-parts, alike-sym, alike-solid, alike-look, reads-ranked}
 use Rattle.theory.proofs.Level.{class-reads}
-use Rattle.theory.proofs.Rows.{rows-beyond}
 use Rattle.classes.specs.Kept.{Kept, Finite, Solved, Joined}
 use Rattle.classes.specs.Settle.{Moved}
-use Rattle.classes.specs.Links.{keyOf, Linkable, Linked, Downward}
+use Rattle.classes.specs.Links.{keyOf, Parted, one, two, Linkable, Linked, Downward}
 use Rattle.classes.specs.Upward.{Fellow, Met, Meets, Lifts}
 use Rattle.classes.proofs.LinkLaws.{down-skip, down-more, linked-none, linked-skip, linked-more, linked-leads}
 use Rattle.classes.proofs.TwinLaws.{alike-trans, alike-self}
@@ -113,14 +111,13 @@ name-alike : {f : ℕ → ℕ} {p : ℕ} {k : Cell} → Alike f (AT p) k → k �
 name-alike atoms = refl
 
 -- Names of one name are of one class, and a variable is alike nothing.
-met-cell : {n : ℕ} {T : Table} {rep : List ℕ} → Kept n T rep → (c : ℕ) (k : Cell) → T c ≡ k → kind k < 2 → Met T (classAt rep) c
+met-cell : {n : ℕ} {T : Table} {rep : List ℕ} → Kept n T rep → (c : ℕ) (k : Cell) → T c ≡ k → (Parted k → ⊥) → Met T (classAt rep) c
 met-cell {n} {T} {rep} w c (AT p) e h = λ own d l own′ a.
     let same = w .names c d p e (name-alike (subst (λ z. Alike (classAt rep) z (T d)) e a)) in
     omega arith
 met-cell {n} {T} {rep} w c VA e h = λ own d l own′ a. elim (subst (λ z. Alike (classAt rep) z (T d)) e a) [ ]
-met-cell w c (ONE (App f) b) e h = absurd (omega arith)
-met-cell w c (TWO Pair l r) e h = absurd (omega arith)
-met-cell w c (TWO Seal l r) e h = absurd (omega arith)
+met-cell w c (ONE g b) e h = absurd (h one)
+met-cell w c (TWO g l r) e h = absurd (h two)
 
 -- ---- one cell
 
@@ -129,15 +126,15 @@ module _ {n : ℕ} {T : Table} {rep tops links : List ℕ} {c : ℕ} (w : Solved
   meets-stay : Met T (classAt rep) c → (Linkable T (classAt rep) c → ⊥) → Meets n T c rep tops links rep tops links false
   meets-stay met bar = record { moved = moved-none rep w; down = down-skip v; met = λ _ l. (met, linked-skip l bar) }
 
-  pub meets-plain : kind (T c) < 2 → Meets n T c rep tops links rep tops links false
-  meets-plain h = meets-stay (met-cell (w .kept) c (T c) refl h) (λ l. omega (arith, l .1))
+  pub meets-plain : (Parted (T c) → ⊥) → Meets n T c rep tops links rep tops links false
+  meets-plain h = meets-stay (met-cell (w .kept) c (T c) refl h) (λ l. h (l .1))
 
   pub meets-under : (classAt rep c ≡ c → ⊥) → Meets n T c rep tops links rep tops links false
   meets-under ne = meets-stay (λ e. absurd (ne e)) (λ l. ne (l .0))
 
   -- It is linked, or joined with its fellow t.
   module _ (k : ℕ) {t : ℕ} (f : Fellow T (classAt rep) links (getD tops k 0) c t) (own : classAt rep c ≡ c) where
-    pub meets-link : k ≡ keyOf (classAt rep) (T c) → 2 ≤ kind (T c) → k < 256 → c < 129 → t ≡ c →
+    pub meets-link : k ≡ keyOf (classAt rep) (T c) → Parted (T c) → k < 256 → c < 129 → t ≡ c →
         Meets n T c rep tops links rep (set tops k (c + 1)) (set links c (getD tops k 0)) false
     meets-link e parts hk hc i =
         record {
@@ -201,10 +198,10 @@ module _ {n : ℕ} {T : Table} {rep : List ℕ} where
 
 -- ---- nothing is left to join
 
-module _ {n : ℕ} {kinds firsts seconds rep : List ℕ} (w : Rows n kinds firsts seconds) (v : Solved n (tableAt kinds firsts seconds) rep)
-    (met : (c : ℕ) → c < n → Met (tableAt kinds firsts seconds) (classAt rep) c) where
+module _ {n : ℕ} {words rep : List ℕ} (w : TableWords n words) (v : Solved n (tableIn words) rep)
+    (met : (c : ℕ) → c < n → Met (tableIn words) (classAt rep) c) where
   abbrev S : Table
-  S = tableAt kinds firsts seconds
+  S = tableIn words
 
   abbrev mine : ℕ → ℕ
   mine = classAt rep
@@ -226,9 +223,9 @@ module _ {n : ℕ} {kinds firsts seconds rep : List ℕ} (w : Rows n kinds first
 
   pub met-up : (c d : ℕ) → Alike (classAt rep) (S c) (S d) → classAt rep c ≡ classAt rep d
   met-up c d h = elim (decLt c n) [
-    | no a ↦ up-name c d (rows-beyond w c (omega arith)) h
+    | no a ↦ up-name c d (w .beyond c (omega arith)) h
     | yes a ↦ elim (decLt d n) [
-      | no b ↦ sym (up-name d c (rows-beyond w d (omega arith)) (alike-sym h))
+      | no b ↦ sym (up-name d c (w .beyond d (omega arith)) (alike-sym h))
       | yes b ↦ up-cells c d a b h
     ]
   ]

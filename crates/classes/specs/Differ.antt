@@ -5,8 +5,8 @@ use Prim.Native.Nat.{ℕ}
 use Rattle.model.specs.Message.{One, Two}
 use Rattle.model.specs.Case.{Cell, ONE, TWO}
 use Rattle.theory.specs.Classes.{Alike}
-use Rattle.classes.specs.declared.Diff.{Diff}
-use Rattle.classes.specs.declared.Diff.the-variants.{Same, Clash, Parts}
+use Rattle.classes.specs.declared.alike.Diff.{Diff}
+use Rattle.classes.specs.declared.alike.Diff.the-variants.{Same, Clash, Parts}
 
 -- `Facing k k′ x y`: x and y are parts at the same place of two cells of one kind and function.
 pub data Facing : Cell → Cell → ℕ → ℕ → Type 0 where

@@ -1,5 +1,5 @@
 -- The class array, a row of 129 bytes: the entry of a cell is the cell that stands for its class.
--- Short: a row of a table; Kept: what every class array keeps; count, classCount: how many classes there are; Finite: the classes come round nowhere;
+-- Kept: what every class array keeps; count, classCount: how many classes there are; Finite: the classes come round nowhere;
 -- Unmet: no messages satisfy them; Never: none that do make two cells equal; Solved: what holds between two questions; Stands, Relabelled, Joined: one join.
 use mathlib.Core.Path.{_≡_}
 use mathlib.Core.Bool.{Bool, cond}
@@ -7,15 +7,11 @@ use mathlib.Core.List.{List}
 use mathlib.Core.Logic.{_↔_}
 use Prim.Native.Nat.{ℕ, zero, suc, _+_, _≤_, _<_}
 use lib.Dec.{eqb}
-use lib.ListN.{length, getD}
+use lib.ListN.{length}
 use Rattle.model.specs.Message.{Message}
 use Rattle.model.specs.Case.{AT, VA, Table, Reads}
 use Rattle.theory.specs.Cells.{classAt}
 use Rattle.theory.specs.Classes.{Closed, Sat, Ranked, Reps, Relabels}
-
--- A row has zeros from 128 on.
-abbrev pub Short : List ℕ → Type 0
-Short row = (c : ℕ) → 128 ≤ c → getD row c 0 ≡ 0
 
 -- What every class array over a table of n cells keeps: representatives as in Reps, one class for the cells of one name, and no class of the table's cells is
 -- named by a cell beyond them.

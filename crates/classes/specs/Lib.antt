@@ -5,4 +5,3 @@ pub mod Settle
 pub mod Peel
 pub mod Links
 pub mod Upward
-pub mod Clash

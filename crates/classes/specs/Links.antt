@@ -4,8 +4,9 @@ use mathlib.Core.Path.{_≡_}
 use mathlib.Core.List.{List}
 use Prim.Native.Nat.{ℕ, _+_, _*_, _%_, _≤_, _<_}
 use lib.ListN.{length, getD}
+use Rattle.model.specs.Message.{One, Two}
 use Rattle.model.specs.Case.{Cell, AT, VA, ONE, TWO, Table}
-use Rattle.model.specs.Reduce.{kind-one, kind-two, kind, one-field}
+use Rattle.model.specs.Reduce.{kind-one, kind-two, one-field}
 
 -- Three bytes in one.
 abbrev pub mixOf : ℕ → ℕ → ℕ → ℕ
@@ -18,9 +19,14 @@ keyOf cls VA = 1
 keyOf cls (ONE g a) = mixOf (one-field g) (cls a) (kind-one g)
 keyOf cls (TWO h l r) = mixOf (cls l) (cls r) (kind-two h)
 
+-- A cell with parts.
+pub data Parted : Cell → Type 0 where
+  one : {g : One} {a : ℕ} → Parted (ONE g a)
+  two : {h : Two} {l r : ℕ} → Parted (TWO h l r)
+
 -- What is linked: a cell with parts that stands for its class.
 abbrev pub Linkable : Table → (ℕ → ℕ) → ℕ → Type 0
-Linkable T cls d = (cls d ≡ d) × (2 ≤ kind (T d))
+Linkable T cls d = (cls d ≡ d) × Parted (T d)
 
 -- at is one more than the highest linkable cell below hi that has the key k; or it is 0, and there is none.
 pub record Behind (T : Table) (cls : ℕ → ℕ) (k hi at : ℕ) : Type 0 where
@@ -38,7 +44,7 @@ pub record Linked (T : Table) (cls : ℕ → ℕ) (c : ℕ) (tops links : List �
 
 -- From top the links lead to all linkable cells below c, a cell with parts, that have its key.
 pub record Leads (T : Table) (cls : ℕ → ℕ) (links : List ℕ) (top c : ℕ) : Type 0 where
-  pub parts : 2 ≤ kind (T c)
+  pub parts : Parted (T c)
   pub head : Behind T cls (keyOf cls (T c)) c top
   pub chained : Chained T cls c links
 

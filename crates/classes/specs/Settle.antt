@@ -1,5 +1,5 @@
 -- Closing the classes: joins that every message of the cells asks for, until nothing is left to join.
--- Shut: a cell is alike the one that stands for its class; Asks: what one comparison answers; Moved: what joins keep; Bound, Sweeps, Settles, Unifies: the functions.
+-- Shut: a cell is alike the one that stands for its class; Asks: what one comparison answers; Moved: what joins keep; Bound, BindsAll, Settles, Unifies: the functions.
 use mathlib.Core.Path.{_≡_}
 use mathlib.Core.Bool.{Bool, true, false}
 use mathlib.Core.List.{List}
@@ -9,10 +9,10 @@ use Rattle.model.specs.Message.{Message}
 use Rattle.model.specs.Case.{VA, Table, Reads}
 use Rattle.theory.specs.Cells.{classAt}
 use Rattle.theory.specs.Classes.{Alike, Closed, Sat}
-use Rattle.classes.specs.declared.Diff.{Diff}
-use Rattle.classes.specs.declared.Diff.the-variants.{Same, Clash, Parts}
-use Rattle.classes.specs.declared.Step.{Step}
-use Rattle.classes.specs.declared.Swept.{Swept}
+use Rattle.classes.specs.declared.alike.Diff.{Diff}
+use Rattle.classes.specs.declared.alike.Diff.the-variants.{Same, Clash, Parts}
+use Rattle.classes.specs.declared.closing.Step.{Step}
+use Rattle.classes.specs.declared.closing.Bindings.{Bindings}
 use Rattle.classes.specs.declared.Settled.{Settled}
 use Rattle.classes.specs.Kept.{Kept, classCount, Unmet, Never, Solved}
 
@@ -49,7 +49,7 @@ pub record Bound (n : ℕ) (T : Table) (rep : List ℕ) (c : ℕ) (out : List �
   pub shut : r .ok ≡ true → r .changed ≡ false → Shut T (classAt rep) c
 
 -- A binding step at each of the cells below upto.
-pub record Sweeps (n : ℕ) (T : Table) (rep : List ℕ) (upto : ℕ) (r : Swept) : Type 0 where
+pub record BindsAll (n : ℕ) (T : Table) (rep : List ℕ) (upto : ℕ) (r : Bindings) : Type 0 where
   pub no : r .ok ≡ false → Unmet T (classAt rep)
   pub yes : r .ok ≡ true → Moved T (Kept n T) rep (r .rep) (r .changed)
   pub shut : r .ok ≡ true → r .changed ≡ false → (c : ℕ) → c < upto → Shut T (classAt rep) c

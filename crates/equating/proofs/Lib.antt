@@ -1,6 +1,6 @@
 pub mod ListLaws
 pub mod EndsLaws
-pub mod CellsLaws
+pub mod ClassLaws
 pub mod PromiseLaws
 pub mod Theorems
 pub mod Starred

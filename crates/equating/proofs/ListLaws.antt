@@ -7,48 +7,51 @@ use native.Mathlib.Numerals.{add-one}
 use native.Mathlib.Omega.{arith}
 use lib.ListN.{length, getD, drop, set, List·getD-append, List·getD-eq-default}
 use lib.Seq.{drop-cons, set-at, getD-at}
-use borrow.Author.Tests.{eq-eqb, ne-eqb}
+use Rattle.model.specs.Case.{Cell, AT, VA, ONE, TWO, Table}
 use Rattle.model.specs.Replies.{laid}
 use Rattle.model.proofs.Listed.{length-snoc}
-use Rattle.equating.specs.Cells.{entryOf, listOf}
+use Rattle.equating.specs.Entries.{entryOf, listOf}
 
-module _ (kinds rep : List ℕ) where
-  pub length-listOf : (n : ℕ) → length (listOf kinds rep n) ≡ n
+-- A variable's entry, and any other cell's.
+pub entry-var : {k : Cell} (x c : ℕ) → k ≡ VA → entryOf k x c ≡ x
+entry-var x c e = ap (λ (k : Cell). entryOf k x c) e
+
+pub entry-own : (k : Cell) (x c : ℕ) → (k ≡ VA → ⊥) → entryOf k x c ≡ c
+entry-own (AT n) x c s = refl
+entry-own VA x c s = absurd (s refl)
+entry-own (ONE g a) x c s = refl
+entry-own (TWO h l r) x c s = refl
+
+module _ (T : Table) (rep : List ℕ) where
+  abbrev entryAt : ℕ → ℕ
+  entryAt c = entryOf (T c) (getD rep c 0) c
+
+  pub length-listOf : (n : ℕ) → length (listOf T rep n) ≡ n
   unfolding listOf
   length-listOf zero = refl
-  length-listOf (suc n) = let z = length-snoc (listOf kinds rep n) (entryOf kinds rep n) in let e = length-listOf n in omega arith
+  length-listOf (suc n) = let z = length-snoc (listOf T rep n) (entryAt n) in let e = length-listOf n in omega arith
 
   -- The entry of a cell below n; past the list the default.
-  pub listOf-at : (n c d : ℕ) → c < n → getD (listOf kinds rep n) c d ≡ entryOf kinds rep c
+  pub listOf-at : (n c d : ℕ) → c < n → getD (listOf T rep n) c d ≡ entryOf (T c) (getD rep c 0) c
   unfolding listOf
   listOf-at zero c d h = absurd (omega arith)
   listOf-at (suc n) c d h = elim (decLt c n) [
-    | yes l ↦ List·getD-append (listOf kinds rep n) (entryOf kinds rep n ∷ []) d c (let e = length-listOf n in omega arith) ∙ listOf-at n c d l
-    | no l ↦
-        (let z : c ≡ n = omega arith in
-        getD-at (listOf kinds rep n) (entryOf kinds rep n) [] d c (length-listOf n ∙ sym z) ∙ ap (entryOf kinds rep) (sym z))
+    | yes l ↦ List·getD-append (listOf T rep n) (entryAt n ∷ []) d c (let e = length-listOf n in omega arith) ∙ listOf-at n c d l
+    | no l ↦ (let z : c ≡ n = omega arith in getD-at (listOf T rep n) (entryAt n) [] d c (length-listOf n ∙ sym z) ∙ ap entryAt (sym z))
   ]
 
-  pub listOf-past : (n c d : ℕ) → n ≤ c → getD (listOf kinds rep n) c d ≡ d
-  listOf-past n c d h = List·getD-eq-default (listOf kinds rep n) d (let e = length-listOf n in omega arith)
-
-  -- A variable's entry, and any other cell's.
-  pub entry-var : (c : ℕ) → getD kinds c 0 ≡ 1 → entryOf kinds rep c ≡ getD rep c 0
-  entry-var c e = rw (eq-eqb _ _ e)
-
-  pub entry-own : (c : ℕ) → (getD kinds c 0 ≡ 1 → ⊥) → entryOf kinds rep c ≡ c
-  entry-own c e = rw (ne-eqb _ _ e)
+  pub listOf-past : (n c d : ℕ) → n ≤ c → getD (listOf T rep n) c d ≡ d
+  listOf-past n c d h = List·getD-eq-default (listOf T rep n) d (let e = length-listOf n in omega arith)
 
   -- One byte more of the list, in the buffer.
   pub listOf-next : (before : List ℕ) (i : ℕ) → i < length before →
-      set (listOf kinds rep i ++ drop i before) i (entryOf kinds rep i) ≡ listOf kinds rep (i + 1) ++ drop (i + 1) before
+      set (listOf T rep i ++ drop i before) i (entryOf (T i) (getD rep i 0) i) ≡ listOf T rep (i + 1) ++ drop (i + 1) before
   unfolding listOf
-  listOf-next before i h =
-      rw (drop-cons before i 0 h, add-one, append-assoc) (set-at (listOf kinds rep i) (getD before i 0) (drop (suc i) before) (entryOf kinds rep i) i (length-listOf i))
+  listOf-next before i h = rw (drop-cons before i 0 h, add-one, append-assoc) (set-at (listOf T rep i) (getD before i 0) (drop (suc i) before) (entryAt i) i (length-listOf i))
 
-  pub listOf-none : (before : List ℕ) → before ≡ listOf kinds rep 0 ++ drop 0 before
+  pub listOf-none : (before : List ℕ) → before ≡ listOf T rep 0 ++ drop 0 before
   unfolding listOf
   listOf-none before = refl
 
-  pub listOf-laid : (before : List ℕ) (n : ℕ) → listOf kinds rep n ++ drop n before ≡ laid (listOf kinds rep n) before
-  listOf-laid before n = ap (λ (k : ℕ). listOf kinds rep n ++ drop k before) (sym (length-listOf n))
+  pub listOf-laid : (before : List ℕ) (n : ℕ) → listOf T rep n ++ drop n before ≡ laid (listOf T rep n) before
+  listOf-laid before n = ap (λ (k : ℕ). listOf T rep n ++ drop k before) (sym (length-listOf n))

@@ -6,8 +6,8 @@ use mathlib.Core.Logic.{_⊎_}
 use Prim.Native.Nat.{ℕ, _≤_, _<_}
 use lib.ListN.{length}
 use Rattle.model.specs.Case.{File}
-use Rattle.model.specs.Format.{readFile, refused, accepted}
-use Rattle.model.specs.Replies.{EquatedBy, NeverEqual, laid}
+use Rattle.model.specs.Format.{readFile, accepted}
+use Rattle.model.specs.Replies.{EquatedBy, NeverEqual, laid, Untouched, FileRefused}
 use Rattle.equating.specs.declared.Equated.{Equated}
 use Rattle.equating.specs.declared.Equated.the-variants.{Refused, No, Listed}
 
@@ -25,12 +25,12 @@ pub record Answered (file : List ℕ) (a b : ℕ) (before : List ℕ) (f : File)
 -- The reply to the cells a and b of a file, and the buffer before and after.
 pub record EquatePromise (file : List ℕ) (a b : ℕ) (before : List ℕ) (reply : Equated) (after : List ℕ) : Type 0 where
   -- the file's own refusals come first, and leave the buffer as it was
-  pub unread : (number place : ℕ) → readFile file ≡ refused number place → (reply ≡ Refused number place) × (after ≡ before)
+  pub refused : FileRefused file λ n p. Untouched (Refused n p) reply before after
   -- then 5, with the cell count, if a or b is not below the cell count
   pub outside : (f : File) → readFile file ≡ accepted f → (length (f .cells) ≤ a) ⊎ (length (f .cells) ≤ b) →
-      (reply ≡ Refused 5 (length (f .cells))) × (after ≡ before)
+      Untouched (Refused 5 (length (f .cells))) reply before after
   -- then 9, with the cell count, if the buffer is shorter
-  pub short : (f : File) → Asked file a b f → length before < length (f .cells) → (reply ≡ Refused 9 (length (f .cells))) × (after ≡ before)
+  pub short : (f : File) → Asked file a b f → length before < length (f .cells) → Untouched (Refused 9 (length (f .cells))) reply before after
   -- then the reply is "no" or a list of one byte for each cell
   pub replied : (f : File) → Answered file a b before f → (reply ≡ No) ⊎ (reply ≡ Listed (length (f .cells)))
   -- "no": no values of the variables make the two cells equal, and nothing is written

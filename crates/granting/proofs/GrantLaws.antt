@@ -8,24 +8,23 @@ use Prim.Native.Nat.{ℕ, suc, _+_, _≤_, _<_}
 use native.Mathlib.Omega.{arith}
 use native.Mathlib.Decide.{decLt}
 use lib.Dec.{eqb}
-use lib.ListN.{length, getD}
+use lib.ListN.{length}
 use borrow.Author.Tests.{eqb-true, eqb-false}
 use Rattle.model.specs.Case.{Cell, MK, LN, Table, Run, Learnt}
-use Rattle.model.specs.Stored.{tableAt, runAt}
+use Rattle.model.specs.Stored.{tableIn, runIn}
 use Rattle.model.proofs.Read.{clash}
-use Rattle.model.proofs.Stored.{var-kind}
-use Rattle.theory.specs.Cells.{Rows, classAt, On}
+use Rattle.theory.specs.Cells.{TableWords, classAt, On}
 use Rattle.theory.specs.Cut.{Place, at-arg, at-left, at-right, Mays, Granted}
 use Rattle.theory.specs.Sweep.{Swept}
 use Rattle.theory.proofs.MarkRows.{on?}
 use Rattle.theory.proofs.Parts.{makes-parts}
-use Rattle.theory.proofs.Rows.{rows-beyond, rows-var, rows-part}
-use Rattle.knowledge.specs.Knowledge.{ClassRow, Marked, Learns}
-use Rattle.knowledge.specs.Sweeps.{leftPart, rightPart, missing, Composed, Newly, Shows, Turned, OwnMarks}
+use Rattle.theory.proofs.Rows.{rows-var, rows-part}
+use Rattle.knowledge.specs.Knowledge.{ClassRow, MarkRow, Learns}
+use Rattle.knowledge.specs.Sweeps.{leftPart, rightPart, missing, MadeBy, Adds, Newly, Shows, Turned, OwnMarks}
 use Rattle.knowledge.proofs.Grow.{noMarks, none-on}
-use Rattle.knowledge.proofs.ByKind.{makes-ends}
 use Rattle.knowledge.proofs.Closing.{still-swept}
 use Rattle.knowledge.proofs.Start.{starts-none}
+use Rattle.wants.specs.Starts.{FreeAt}
 use Rattle.wants.specs.Sets.{NeedRow}
 use Rattle.wants.proofs.SetLaws.{rows-sets}
 use Rattle.granting.specs.Meets.{May, Granting}
@@ -57,8 +56,8 @@ missing-kept (x ∷ xs) (y ∷ ys) l k = missing-step x y xs ys (k 0) (missing-k
 
 -- ---- rounds
 
-module _ {T : Table} {n : ℕ} {rep kinds cells : List ℕ} {p : ℕ} {s b s′ b′ : List ℕ} {ch : Bool} (t : Turned T n rep s b s′ b′ ch) where
-  pub rounded-turn : ch ≡ true → Rounded T n rep kinds cells p s b s′ b′ ch
+module _ {T : Table} {n : ℕ} {rep run : List ℕ} {p : ℕ} {s b s′ b′ : List ℕ} {ch : Bool} (t : Turned T n rep s b s′ b′ ch) where
+  pub rounded-turn : ch ≡ true → Rounded T n rep run p s b s′ b′ ch
   rounded-turn e = record {
     more = record { seen-marked = t .seen-marked; built-marked = t .built-marked; seen-kept = t .seen-kept; built-kept = t .built-kept };
     still = λ i. absurd (true≢false (sym e ∙ i));
@@ -66,7 +65,7 @@ module _ {T : Table} {n : ℕ} {rep kinds cells : List ℕ} {p : ℕ} {s b s′ 
   }
 
   module _ (ls : length s ≡ 129) (ls′ : length s′ ≡ 129) (lb : length b ≡ 129) (lb′ : length b′ ≡ 129) {need b₂ : List ℕ} {ch₂ : Bool} (g : Granting T n rep need s′ b′ b₂ ch₂ n) where
-    pub rounded-grant : ch₂ ≡ true → Rounded T n rep kinds cells p s b s′ b₂ true
+    pub rounded-grant : ch₂ ≡ true → Rounded T n rep run p s b s′ b₂ true
     rounded-grant i = record {
       more = record { seen-marked = t .seen-marked; built-marked = g .grown .marked; seen-kept = t .seen-kept; built-kept = λ c o. g .grown .kept c (t .built-kept c o) };
       still = λ j. absurd (true≢false j);
@@ -74,7 +73,7 @@ module _ {T : Table} {n : ℕ} {rep kinds cells : List ℕ} {p : ℕ} {s b s′ 
     }
 
     -- Where no rule adds a mark.
-    still-all : ch ≡ false → ch₂ ≡ false → NeedRow T rep s′ b′ need → Tight T n rep kinds cells p s′ → Still T n rep kinds cells p s′ b₂
+    still-all : ch ≡ false → ch₂ ≡ false → NeedRow T rep s′ b′ need → Tight T n rep run p s′ → Still T n rep run p s′ b₂
     still-all i j needs tight =
         let e : b₂ ≡ b′ = g .grown .same j in
         record {
@@ -85,7 +84,7 @@ module _ {T : Table} {n : ℕ} {rep kinds cells : List ℕ} {p : ℕ} {s b s′ 
           tight = tight;
         }
 
-    pub rounded-leak : ch ≡ false → ch₂ ≡ false → NeedRow T rep s′ b′ need → {s₂ : List ℕ} {ch₃ : Bool} → Leaked T n rep kinds cells p s′ s₂ ch₃ → Rounded T n rep kinds cells p s b s₂ b₂ ch₃
+    pub rounded-leak : ch ≡ false → ch₂ ≡ false → NeedRow T rep s′ b′ need → {s₂ : List ℕ} {ch₃ : Bool} → Leaked T n rep run p s′ s₂ ch₃ → Rounded T n rep run p s b s₂ b₂ ch₃
     rounded-leak i j needs {s₂} {ch₃} l = record {
       more = record {
         seen-marked = l .grown .marked;
@@ -95,14 +94,14 @@ module _ {T : Table} {n : ℕ} {rep kinds cells : List ℕ} {p : ℕ} {s b s′ 
       };
       still = λ f.
           let e : s₂ ≡ s′ = l .grown .same f in
-          subst (λ z. Still T n rep kinds cells p z b₂) (sym e) (still-all i j needs (subst (λ z. Tight T n rep kinds cells p z) e (l .tight f)));
+          subst (λ z. Still T n rep run p z b₂) (sym e) (still-all i j needs (subst (λ z. Tight T n rep run p z) e (l .tight f)));
       moved = λ f. omega (arith, missing-kept s s′ (ls ∙ sym ls′) (t .seen-kept), missing-kept b b′ (lb ∙ sym lb′) (t .built-kept), g .grown .down, l .grown .moved f);
     }
 
 -- ---- rounds until nothing changes
 
 module _ {rep s b : List ℕ} where
-  pub more-none : Marked rep s → Marked rep b → More rep s b s b
+  pub more-none : MarkRow rep s → MarkRow rep b → More rep s b s b
   more-none x y = record { seen-marked = x; built-marked = y; seen-kept = λ c o. o; built-kept = λ c o. o }
 
   pub more-more : {s₁ b₁ s₂ b₂ : List ℕ} → More rep s b s₁ b₁ → More rep s₁ b₁ s₂ b₂ → More rep s b s₂ b₂
@@ -120,9 +119,9 @@ place-side c d at-arg = inl (refl, refl)
 place-side c d at-left = inl (refl, refl)
 place-side c d at-right = inr (refl, refl)
 
-module _ {n : ℕ} {K F S rep : List ℕ} (w : Rows n K F S) {kinds cells : List ℕ} {p : ℕ} {s b : List ℕ} (h : Still (tableAt K F S) n rep kinds cells p s b) where
+module _ {n : ℕ} {words rep : List ℕ} (w : TableWords n words) {run : List ℕ} {p : ℕ} {s b : List ℕ} (h : Still (tableIn words) n rep run p s b) where
   abbrev T : Table
-  T = tableAt K F S
+  T = tableIn words
 
   -- A key that may be equal to a seen cell is built.
   grant-on : (c d : ℕ) → On (h .need) c → On s d → May T rep c d → On b c
@@ -135,13 +134,7 @@ module _ {n : ℕ} {K F S rep : List ℕ} (w : Rows n K F S) {kinds cells : List
   pub still-whole : Whole T rep b
   still-whole c i j e m x y = elim (on? b c) [
     | inl o ↦ o
-    | inr o ↦ (
-        let (l, r) = makes-ends c m in
-        absurd (h .still c (rows-part w c i (makes-parts m .0) .0) .0 (record {
-          stands = e;
-          new = o;
-          composed = Composed.makes m (subst (λ d. On b (classAt rep d)) (sym l) x) (subst (λ d. On b (classAt rep d)) (sym r) y);
-        })))
+    | inr o ↦ absurd (h .still c (rows-part w c i (makes-parts m .0) .0) .0 (record { stands = e; new = o; adds = Adds.made (MadeBy.makes m x y) }))
   ]
 
   -- What may leak is seen.
@@ -161,7 +154,7 @@ module _ {n : ℕ} {K F S rep : List ℕ} (w : Rows n K F S) {kinds cells : List
   module _ (row : ClassRow n rep) {b₀ : List ℕ} (own : OwnMarks n rep b₀) (kept : (c : ℕ) → On b₀ c → On b c) where
     -- The rules that grant nothing, as of an empty run.
     quiet : Swept T (classAt rep) (λ q. none) 0 (On s) (On b)
-    quiet = still-swept T row (rows-beyond w) own s b kept (h .still) (λ q. none) 0 noMarks (λ c o. absurd (none-on c o)) (starts-none T row (λ q. none))
+    quiet = still-swept T row (w .beyond) own s b kept (h .still) (λ q. none) 0 noMarks (λ c o. absurd (none-on c o)) (starts-none T row (λ q. none))
 
     pub still-marks : (ev : Run) → ((c : ℕ) → Learnt ev p c → On s (classAt rep c)) → Swept T (classAt rep) ev p (On s) (On b)
     still-marks ev learnt = record {
@@ -174,18 +167,18 @@ module _ {n : ℕ} {K F S rep : List ℕ} (w : Rows n K F S) {kinds cells : List
       makes = quiet .makes;
     }
 
-    pub still-granted : (count : ℕ) → ((c : ℕ) → Learnt (runAt count kinds cells) p c → On s (classAt rep c)) →
-        Granted T (classAt rep) (runAt count kinds cells) p (May T rep) (On s) (On b) (On (h .need)) (On (h .tight .held)) (On (h .tight .over))
+    pub still-granted : (count : ℕ) → ((c : ℕ) → Learnt (runIn count run) p c → On s (classAt rep c)) →
+        Granted T (classAt rep) (runIn count run) p (May T rep) (On s) (On b) (On (h .need)) (On (h .tight .held)) (On (h .tight .over))
     still-granted count learnt = record {
-      sets = rows-sets w row count p (still-marks (runAt count kinds cells) learnt) (h .needs) (h .tight .holds) (h .tight .tops);
+      sets = rows-sets w row count p (still-marks (runIn count run) learnt) (h .needs) (h .tight .holds) (h .tight .tops);
       grants = λ c d i j k o m. grant-on c d k o m;
       leak = λ c d x x′ i j o g q sd. elim (on? s (classAt rep x′)) [ inl y ↦ inl y | inr y ↦ inr (λ m. y (leak-on c d x x′ o g q sd m)) ];
     }
 
 -- Where no free class is seen nothing leaks, at whatever position.
-pub calm-still : {n : ℕ} {K F S rep : List ℕ} → Rows n K F S → {kinds cells : List ℕ} {p : ℕ} {s b : List ℕ} → ((c : ℕ) → c < n → getD K c 0 ≡ 1 → On s c → ⊥) →
-    Still (tableAt K F S) n rep kinds cells p s b → (q : ℕ) → Still (tableAt K F S) n rep kinds cells q s b
-calm-still {K = K} {F} {S} {rep} w {cells = cells} calm h q = record {
+pub calm-still : {n : ℕ} {words rep : List ℕ} → TableWords n words → {run : List ℕ} {p : ℕ} {s b : List ℕ} → ((c : ℕ) → c < n → FreeAt (tableIn words) s c → ⊥) →
+    Still (tableIn words) n rep run p s b → (q : ℕ) → Still (tableIn words) n rep run q s b
+calm-still {rep = rep} w calm h q = record {
   still = h .still;
   need = h .need;
   needs = h .needs;
@@ -194,10 +187,10 @@ calm-still {K = K} {F} {S} {rep} w {cells = cells} calm h q = record {
     held = noMarks;
     over = noMarks;
     holds = record {
-      here = λ c i v o. absurd (calm c (rows-var w c v) (var-kind (getD K c 0) (getD F c 0) (getD S c 0) v) o);
+      here = λ c i v o. absurd (calm c (rows-var w c v) (o, v));
       up = λ c d i p o. absurd (none-on (classAt rep d) o);
     };
-    tops = record { due = λ l h e o. absurd (none-on (classAt rep (getD cells l 0)) o); parts = λ c d i o. absurd (none-on c o) };
+    tops = record { due = λ l x h e o. absurd (none-on (classAt rep x) o); parts = λ c d i o. absurd (none-on c o) };
     still = λ c l o. absurd (none-on c o);
   };
 }

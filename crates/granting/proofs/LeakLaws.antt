@@ -10,7 +10,8 @@ use borrow.Author.Count.{below-more}
 use Rattle.model.specs.Case.{Table}
 use Rattle.model.proofs.Read.{clash}
 use Rattle.theory.specs.Cells.{classAt, On}
-use Rattle.knowledge.specs.Knowledge.{ClassRow, Marked}
+use Rattle.theory.specs.Level.{Kin}
+use Rattle.knowledge.specs.Knowledge.{ClassRow, MarkRow}
 use Rattle.knowledge.specs.Sweeps.{leftPart, rightPart}
 use Rattle.knowledge.proofs.Grow.{grown-none, grown-mark}
 use Rattle.wants.specs.declared.starts.Pick.{Pick}
@@ -19,6 +20,7 @@ use Rattle.wants.specs.Starts.{EndsAt}
 use Rattle.wants.specs.Sets.{HeldRow, OverRow}
 use Rattle.granting.specs.Meets.{May}
 use Rattle.granting.specs.Leaks.{Bright, Leaks, LeakTold, LeakingRow, Leaking, Leaked}
+use Rattle.granting.proofs.KinLaws.{kin-self}
 
 -- ---- two cells
 
@@ -41,8 +43,11 @@ module _ (T : Table) {n : ℕ} {rep : List ℕ} (row : ClassRow n rep) (held see
 -- ---- the row of a cell
 
 module _ (T : Table) (rep held : List ℕ) (c : ℕ) (m : List ℕ) where
-  pub row-none : length m ≡ 129 → Marked rep m → LeakingRow T rep held c m m false 0
+  pub row-none : length m ≡ 129 → MarkRow rep m → LeakingRow T rep held c m m false 0
   row-none l w = record { grown = grown-none l w; still = λ e d h. absurd (omega arith) }
+
+  pub row-unkin : (n : ℕ) → length m ≡ 129 → MarkRow rep m → (Kin (T c) (T c) → ⊥) → LeakingRow T rep held c m m false n
+  row-unkin n l w none = record { grown = grown-none l w; still = λ e d h x. none (kin-self (x .may .kin)) }
 
   module _ {r : List ℕ} (d : ℕ) where
     told-leak : {p : Pick} {x : ℕ} → LeakTold T rep held r c d p → p ≡ pick.Mark x → (x ≤ 128) × (classAt rep x ≡ x) × (On r x → ⊥)
@@ -85,14 +90,14 @@ module _ (T : Table) (n : ℕ) (rep held over m : List ℕ) where
   pub leaking-row : (c : ℕ) (r : List ℕ) (ch : Bool) → LeakingRow T rep held c m r ch n → ch ≡ true → Leaking T n rep held over m r ch
   leaking-row c r ch w e = record { grown = w .grown; still = λ i. absurd (true≢false (sym e ∙ i)) }
 
-  pub leaking-none : length m ≡ 129 → Marked rep m → Quiet n → Leaking T n rep held over m m false
+  pub leaking-none : length m ≡ 129 → MarkRow rep m → Quiet n → Leaking T n rep held over m m false
   leaking-none l w x = record { grown = grown-none l w; still = λ e. x }
 
 -- ---- the sets
 
-pub leaked-all : {T : Table} {n : ℕ} {rep kinds cells held over m r : List ℕ} {p : ℕ} {ch : Bool} → HeldRow T rep m held → OverRow T rep held kinds cells p over →
-    Leaking T n rep held over m r ch → Leaked T n rep kinds cells p m r ch
-leaked-all {T} {n} {rep} {kinds} {cells} {held} {over} {m} {r} x y z = record {
+pub leaked-all : {T : Table} {n : ℕ} {rep run held over m r : List ℕ} {p : ℕ} {ch : Bool} → HeldRow T rep m held → OverRow T rep held run p over →
+    Leaking T n rep held over m r ch → Leaked T n rep run p m r ch
+leaked-all {T} {n} {rep} {run} {held} {over} {m} {r} x y z = record {
   grown = z .grown;
   tight = λ e. record { held = held; over = over; holds = subst (λ s. HeldRow T rep s held) (sym (z .grown .same e)) x; tops = y; still = z .still e };
 }

@@ -7,8 +7,8 @@ use native.Mathlib.Omega.{arith}
 use lib.ListN.{length, set, length-set}
 use Rattle.model.specs.Message.{App}
 use Rattle.model.specs.Case.{Cell, AT, VA, ONE, TWO, Table, Part, in-arg, in-left, in-right}
-use Rattle.model.specs.Stored.{tableAt}
-use Rattle.theory.specs.Cells.{Rows, Composes, Makes, classAt, On}
+use Rattle.model.specs.Stored.{tableIn}
+use Rattle.theory.specs.Cells.{TableWords, Composes, Makes, classAt, On}
 use Rattle.theory.proofs.MarkRows.{set-kept, set-on, set-cases}
 use Rattle.classes.specs.Kept.{Kept}
 use Rattle.knowledge.specs.Sweeps.{leftPart, rightPart}
@@ -36,9 +36,9 @@ ends-made VA c = inr refl
 ends-made (ONE (App f) a) c = inl (Makes.ones Composes.apps)
 ends-made (TWO h l r) c = inl Makes.twos
 
-module _ {n : ℕ} {K F S rep : List ℕ} (w : Rows n K F S) (k : Kept n (tableAt K F S) rep) {a b : ℕ} (c : ℕ) (e : EndsAt (tableAt K F S) rep c a b) where
+module _ {n : ℕ} {words rep : List ℕ} (w : TableWords n words) (k : Kept n (tableIn words) rep) {a b : ℕ} (c : ℕ) (e : EndsAt (tableIn words) rep c a b) where
   abbrev T : Table
-  T = tableAt K F S
+  T = tableIn words
 
   -- Their classes are named by cells of the table.
   pub left-inside : c < n → a < n

@@ -40,14 +40,14 @@ pub record Leaking (T : Table) (n : ℕ) (rep held over m r : List ℕ) (changed
   pub still : changed ≡ false → (c : ℕ) → c < n → On over c → (d : ℕ) → d < n → Leaks T rep held r c d → ⊥
 
 -- With the marks s of seen cells nothing more leaks.
-pub record Tight (T : Table) (n : ℕ) (rep kinds cells : List ℕ) (p : ℕ) (s : List ℕ) : Type 0 where
+pub record Tight (T : Table) (n : ℕ) (rep run : List ℕ) (p : ℕ) (s : List ℕ) : Type 0 where
   pub held : List ℕ
   pub over : List ℕ
   pub holds : HeldRow T rep s held
-  pub tops : OverRow T rep held kinds cells p over
+  pub tops : OverRow T rep held run p over
   pub still : (c : ℕ) → c < n → On over c → (d : ℕ) → d < n → Leaks T rep held s c d → ⊥
 
 -- The marks m of seen cells are taken to r; where nothing changes, nothing leaks.
-pub record Leaked (T : Table) (n : ℕ) (rep kinds cells : List ℕ) (p : ℕ) (m r : List ℕ) (changed : Bool) : Type 0 where
+pub record Leaked (T : Table) (n : ℕ) (rep run : List ℕ) (p : ℕ) (m r : List ℕ) (changed : Bool) : Type 0 where
   pub grown : Grown rep m r changed
-  pub tight : changed ≡ false → Tight T n rep kinds cells p r
+  pub tight : changed ≡ false → Tight T n rep run p r

@@ -1,7 +1,7 @@
 -- Cells that may be equal, and keys that are granted as they may be equal to a cell that is seen.
--- May: when two cells may be equal; Alone: a cell may be equal to none that is seen; Earns: a key to be granted; EarnsTold, Granting: one cell, and a sweep over the cells.
+-- May: when two cells may be equal; Alone: a cell may be equal to none that is seen; Earns: a key to be granted; Granting: a sweep over the cells.
 use mathlib.Core.Path.{_≡_}
-use mathlib.Core.Bool.{Bool, true, false}
+use mathlib.Core.Bool.{Bool, false}
 use mathlib.Core.List.{List}
 use Prim.Native.Nat.{ℕ, _<_}
 use Rattle.model.specs.Case.{Table}
@@ -28,12 +28,6 @@ pub record Earns (T : Table) (n : ℕ) (rep keys seens builts : List ℕ) (c : �
   pub below : cell < n
   pub whole : On seens cell
   pub may : May T rep c cell
-
--- Is c to be marked as built? If so, it is a key and is new; if not, it earns no mark.
-pub record EarnsTold (T : Table) (n : ℕ) (rep keys seens builts : List ℕ) (c : ℕ) (r : Bool) : Type 0 where
-  pub key : r ≡ true → On keys c
-  pub new : r ≡ true → On builts c → ⊥
-  pub no : r ≡ false → Earns T n rep keys seens builts c → ⊥
 
 -- A sweep over the cells below `upto`, which takes the marks m of built cells to r.
 pub record Granting (T : Table) (n : ℕ) (rep keys seens m r : List ℕ) (changed : Bool) (upto : ℕ) : Type 0 where

@@ -5,4 +5,8 @@ mod leaks;
 pub mod line;
 mod meets;
 
-pub use meets::kin;
+// Two cells of which one may be made equal to the other: a place among the pairs, row by row.
+pub struct Place {
+    pub c: usize,
+    pub d: usize,
+}

@@ -1,55 +1,54 @@
 // Ways down from what is to be made, part by part, through cells that are not built.
-use super::meets::kin;
+use super::grants::Grant;
+use cells::Table;
+use cells::kin_at;
 use classes::clash::clash;
-use knowledge::class_of;
+use classes::class_of;
 use wants::ends;
+ghost use mathlib.Core.Path.{_≡_};
 ghost use Prim.Native.Nat.{_<_};
-ghost use Rattle.model.specs.Stored.{tableAt};
-ghost use Rattle.theory.specs.Cells.{Rows};
+ghost use Rattle.model.specs.Stored.{tableIn};
+ghost use Rattle.theory.specs.Cells.{TableWords};
 ghost use Rattle.classes.specs.Kept.{Kept};
 ghost use Rattle.granting.specs.Line.{Whole, Lacking, Below, LineRow};
 
 // A guide: is d bare, of the kind of c and of another class, and is there no clash at once?
 fn near<'a>(
-    kind: &'a [u8; 128],
-    first: &'a [u8; 128],
-    second: &'a [u8; 128],
+    table: &'a Table,
     n: usize,
     rep: &'a [u8; 129],
     bare: &'a [u8; 129],
     c: usize,
     d: usize,
 ) -> bool
-    requires { ⌜ Rows n (now kind) (now first) (now second) ⌝ }
-    requires { ⌜ Kept n (tableAt (now kind) (now first) (now second)) (now rep) ⌝ }
+    requires { ⌜ TableWords n (now table) ⌝ }
+    requires { ⌜ Kept n (tableIn (now table)) (now rep) ⌝ }
     requires { ⌜ c < n ⌝ }
     requires { ⌜ d < n ⌝ }
 {
     if bare[d] != 1 {
         return false;
     }
-    if !kin(kind, first, c, d) {
+    if !kin_at(table, c, d) {
         return false;
     }
     if class_of(rep, c) == class_of(rep, d) {
         return false;
     }
-    !clash(kind, first, second, n, rep, c as u8, d as u8, 3)
+    !clash(table, n, rep, c as u8, d as u8, 3)
 }
 
 // A guide: the number of bare cells that c may be equal to, added to `before`, up to 254.
 fn live_row<'a>(
-    kind: &'a [u8; 128],
-    first: &'a [u8; 128],
-    second: &'a [u8; 128],
+    table: &'a Table,
     n: usize,
     rep: &'a [u8; 129],
     bare: &'a [u8; 129],
     c: usize,
     before: u8,
 ) -> u8
-    requires { ⌜ Rows n (now kind) (now first) (now second) ⌝ }
-    requires { ⌜ Kept n (tableAt (now kind) (now first) (now second)) (now rep) ⌝ }
+    requires { ⌜ TableWords n (now table) ⌝ }
+    requires { ⌜ Kept n (tableIn (now table)) (now rep) ⌝ }
     requires { ⌜ c < n ⌝ }
 {
     let mut k = before;
@@ -58,7 +57,7 @@ fn live_row<'a>(
         if 254 <= k {
             return k;
         }
-        if near(kind, first, second, n, rep, bare, c, d) {
+        if near(table, n, rep, bare, c, d) {
             k += 1;
         }
         d += 1;
@@ -66,90 +65,74 @@ fn live_row<'a>(
     k
 }
 
+// A cell, and how many levels down from it are still looked at.
+struct Depth {
+    pub cell: usize,
+    pub levels: usize,
+}
+
 // A guide: how many pairs the best way down from c leaves to try, at most 254. In `costs` it is 255 where it is not known yet.
 fn cost<'a, 'b>(
-    kind: &'a [u8; 128],
-    first: &'a [u8; 128],
-    second: &'a [u8; 128],
+    table: &'a Table,
     n: usize,
     rep: &'a [u8; 129],
-    built: &'a [u8; 129],
     bare: &'a [u8; 129],
     costs: &'b mut [u8; 129],
-    deep: usize,
-    c: usize,
+    at: Depth,
 ) -> u8
-    requires { ⌜ Rows n (now kind) (now first) (now second) ⌝ }
-    requires { ⌜ Kept n (tableAt (now kind) (now first) (now second)) (now rep) ⌝ }
-    requires { ⌜ c < n ⌝ }
+    requires { ⌜ TableWords n (now table) ⌝ }
+    requires { ⌜ Kept n (tableIn (now table)) (now rep) ⌝ }
+    requires { ⌜ at .cell < n ⌝ }
 {
-    if built[c] == 1 {
-        return 254;
-    }
+    let c = at.cell;
     if costs[c] != 255 {
         return costs[c];
     }
-    if deep == 0 {
+    if at.levels == 0 {
         return 254;
     }
-    let e = ends(kind, first, second, n, rep, c);
+    let below = at.levels - 1;
+    let e = ends(table, n, rep, c);
     if e.right == c {
         costs[c] = 0;
         return 0;
     }
-    let r = cost(
-        kind,
-        first,
-        second,
-        n,
-        rep,
-        built,
-        bare,
-        costs,
-        deep - 1,
-        e.right,
-    );
+    let r = cost(table, n, rep, bare, costs, down(e.right, below));
     let mut s = r;
     if r != 0 {
-        let l = cost(
-            kind,
-            first,
-            second,
-            n,
-            rep,
-            built,
-            bare,
-            costs,
-            deep - 1,
-            e.left,
-        );
+        let l = cost(table, n, rep, bare, costs, down(e.left, below));
         if l < r {
             s = l;
         }
     }
-    let k = live_row(kind, first, second, n, rep, bare, c, s);
+    let k = live_row(table, n, rep, bare, c, s);
     costs[c] = k;
     k
 }
 
+// The cell c, with so many levels below it.
+fn down(c: usize, levels: usize) -> Depth
+    ensures { λ r. ⌜ (r .cell ≡ c) × (r .levels ≡ levels) ⌝ }
+{
+    Depth { cell: c, levels }
+}
+
 // A class of the parts of c that is not built: the one with the better way. For a cell without parts, its own.
 fn next<'a>(
-    kind: &'a [u8; 128],
-    first: &'a [u8; 128],
-    second: &'a [u8; 128],
+    table: &'a Table,
     n: usize,
     rep: &'a [u8; 129],
     built: &'a [u8; 129],
     costs: &'a [u8; 129],
     c: usize,
 ) -> usize
-    requires { ⌜ Rows n (now kind) (now first) (now second) ⌝ }
-    requires { ⌜ Kept n (tableAt (now kind) (now first) (now second)) (now rep) ⌝ }
-    requires { ⌜ Whole (tableAt (now kind) (now first) (now second)) (now rep) (now built) ⌝ }
+    requires { ⌜ TableWords n (now table) ⌝ }
+    requires { ⌜ Kept n (tableIn (now table)) (now rep) ⌝ }
+    requires { ⌜ Whole (tableIn (now table)) (now rep) (now built) ⌝ }
     requires { ⌜ Lacking n (now rep) (now built) c ⌝ }
-    ensures { λ r. ⌜ Below (tableAt (now (kind .entry)) (now (first .entry)) (now (second .entry))) n (now (rep .entry)) (now (built .entry)) c r ⌝ }
+    ensures { λ r. ⌜ Below (tableIn (now (table .entry))) n (now (rep .entry)) (now (built .entry)) c r ⌝ }
 {
-    let e = ends(kind, first, second, n, rep, c);
+    let e = ends(table, n, rep, c);
     let a = e.left;
     let b = e.right;
     if built[b] == 1 {
@@ -166,26 +149,24 @@ fn next<'a>(
 
 // The cells of a way down from c, which is not built.
 fn way<'a>(
-    kind: &'a [u8; 128],
-    first: &'a [u8; 128],
-    second: &'a [u8; 128],
+    table: &'a Table,
     n: usize,
     rep: &'a [u8; 129],
     built: &'a [u8; 129],
     costs: &'a [u8; 129],
     goal: usize,
 ) -> [u8; 129]
-    requires { ⌜ Rows n (now kind) (now first) (now second) ⌝ }
-    requires { ⌜ Kept n (tableAt (now kind) (now first) (now second)) (now rep) ⌝ }
-    requires { ⌜ Whole (tableAt (now kind) (now first) (now second)) (now rep) (now built) ⌝ }
+    requires { ⌜ TableWords n (now table) ⌝ }
+    requires { ⌜ Kept n (tableIn (now table)) (now rep) ⌝ }
+    requires { ⌜ Whole (tableIn (now table)) (now rep) (now built) ⌝ }
     requires { ⌜ Lacking n (now rep) (now built) goal ⌝ }
-    ensures { λ r. ⌜ LineRow (tableAt (now (kind .entry)) (now (first .entry)) (now (second .entry))) (now (rep .entry)) (now (built .entry)) goal r ⌝ }
+    ensures { λ r. ⌜ LineRow (tableIn (now (table .entry))) (now (rep .entry)) (now (built .entry)) goal r ⌝ }
 {
     let mut m = [0; 129];
     let mut c = goal;
     loop {
         m[c] = 1;
-        let x = next(kind, first, second, n, rep, built, costs, c);
+        let x = next(table, n, rep, built, costs, c);
         if m[x] == 1 {
             return m;
         }
@@ -201,23 +182,20 @@ pub struct Lined {
 
 // The best way down from the class c, which is not built; the costs that are worked out for it are kept.
 pub fn line<'a, 'b>(
-    kind: &'a [u8; 128],
-    first: &'a [u8; 128],
-    second: &'a [u8; 128],
+    table: &'a Table,
     n: usize,
     rep: &'a [u8; 129],
-    built: &'a [u8; 129],
-    bare: &'a [u8; 129],
+    g: Grant,
     costs: &'b mut [u8; 129],
     c: usize,
 ) -> Lined
-    requires { ⌜ Rows n (now kind) (now first) (now second) ⌝ }
-    requires { ⌜ Kept n (tableAt (now kind) (now first) (now second)) (now rep) ⌝ }
-    requires { ⌜ Whole (tableAt (now kind) (now first) (now second)) (now rep) (now built) ⌝ }
-    requires { ⌜ Lacking n (now rep) (now built) c ⌝ }
-    ensures { λ r. ⌜ LineRow (tableAt (now (kind .entry)) (now (first .entry)) (now (second .entry))) (now (rep .entry)) (now (built .entry)) c (r .cells) ⌝ }
+    requires { ⌜ TableWords n (now table) ⌝ }
+    requires { ⌜ Kept n (tableIn (now table)) (now rep) ⌝ }
+    requires { ⌜ Whole (tableIn (now table)) (now rep) (g .built) ⌝ }
+    requires { ⌜ Lacking n (now rep) (g .built) c ⌝ }
+    ensures { λ r. ⌜ LineRow (tableIn (now (table .entry))) (now (rep .entry)) (g .built) c (r .cells) ⌝ }
 {
-    let k = cost(kind, first, second, n, rep, built, bare, &mut *costs, n, c);
-    let m = way(kind, first, second, n, rep, built, &*costs, c);
+    let k = cost(table, n, rep, &g.bare, &mut *costs, down(c, n));
+    let m = way(table, n, rep, &g.built, &*costs, c);
     Lined { pairs: k, cells: m }
 }

@@ -1,67 +1,75 @@
 -- What is found at one cell.
-use mathlib.Core.Path.{_≡_, sym, subst}
-use mathlib.Core.Bool.{Bool}
+use mathlib.Core.Path.{_≡_, sym, _∙_, ap, subst}
+use mathlib.Core.Bool.{Bool, true}
 use mathlib.Core.List.{List}
 use Prim.Native.Nat.{ℕ, _≤_, _<_}
 use native.Mathlib.Omega.{arith}
-use lib.ListN.{getD}
 use Rattle.model.proofs.Read.{clash}
-use Rattle.model.specs.Case.{Table}
-use Rattle.model.specs.Stored.{tableAt}
-use Rattle.theory.specs.Cells.{Rows, classAt, On}
+use Rattle.model.specs.Case.{Cell, Table, Part}
+use Rattle.model.specs.Stored.{tableIn}
+use Rattle.theory.specs.Cells.{TableWords, classAt, On}
 use Rattle.theory.specs.Decides.{Decides}
-use Rattle.theory.proofs.Decides.{decides-iff}
-use Rattle.knowledge.specs.declared.Found.{Found}
-use Rattle.knowledge.specs.declared.Found.the-variants.{Parts, Nothing}
+use Rattle.theory.proofs.Decides.{decides-yes, decides-iff}
+use Rattle.knowledge.specs.declared.Shown.{Shown}
+use Rattle.knowledge.specs.declared.Shown.the-variants.{Parts, Nothing}
 use Rattle.knowledge.specs.Knowledge.{ClassRow}
-use Rattle.knowledge.specs.Sweeps.{leftPart, rightPart, leftClass, rightClass, Composed, Gives, Newly, Shows, Finds}
+use Rattle.knowledge.specs.Sweeps.{leftPart, rightPart, leftClass, rightClass, Given, MadeBy, Gives, Adds, Newly, Shows, Finds}
 use Rattle.knowledge.proofs.ByKind.{left-low, right-low}
 
 -- The parts of a cell are cells.
-module _ {n : ℕ} {K F S : List ℕ} (w : Rows n K F S) (c : ℕ) (h : c < n) where
-  pub left-cell : leftPart (tableAt K F S c) c ≤ 128
-  left-cell = omega (arith, left-low (tableAt K F S c) c (w .lower c), w .few)
+module _ {n : ℕ} {words : List ℕ} (w : TableWords n words) (c : ℕ) (h : c < n) where
+  pub left-cell : leftPart (tableIn words c) c ≤ 128
+  left-cell = omega (arith, left-low (tableIn words c) c (w .lower c), w .few)
 
-  pub right-cell : rightPart (tableAt K F S c) c ≤ 128
-  right-cell = omega (arith, right-low (tableAt K F S c) c (w .lower c), w .few)
+  pub right-cell : rightPart (tableIn words c) c ≤ 128
+  right-cell = omega (arith, right-low (tableIn words c) c (w .lower c), w .few)
 
-module _ (T : Table) (rep seens builts : List ℕ) (c a b : ℕ) (l : a ≡ leftClass T rep c) (r : b ≡ rightClass T rep c) where
-  pub newly-decides : {t : Bool} → classAt rep c ≡ c → (On builts c → ⊥) → Decides t (Composed (T c) (getD seens c 0) (getD builts a 0) (getD builts b 0)) →
-      Decides t (Newly T rep seens builts c)
-  newly-decides s n d = decides-iff d
-      (λ x. record {
-        stands = s;
-        new = n;
-        composed = subst (λ j. Composed (T c) (getD seens c 0) (getD builts (leftClass T rep c) 0) (getD builts j 0)) r
-            (subst (λ i. Composed (T c) (getD seens c 0) (getD builts i 0) (getD builts b 0)) l x);
-      })
-      (λ y. subst (λ j. Composed (T c) (getD seens c 0) (getD builts a 0) (getD builts j 0)) (sym r)
-      (subst (λ i. Composed (T c) (getD seens c 0) (getD builts i 0) (getD builts (rightClass T rep c) 0)) (sym l) (y .composed)))
+  pub part-cell : {k : Cell} → k ≡ tableIn words c → (d : ℕ) → Part k d → d ≤ 128
+  part-cell e d p = omega (arith, w .lower c d (subst (λ j. Part j d) e p), w .few)
 
-  pub finds-parts : Shows T rep seens builts c → Finds T rep seens builts c (Parts a b)
-  finds-parts w = subst (λ j. Finds T rep seens builts c (Parts a j)) (sym r) (subst (λ i. Finds T rep seens builts c (Parts i (rightClass T rep c))) (sym l) (Finds.parts w))
+-- Is c to be marked as built? It stands for its class and is not marked, and its cell k decides.
+module _ (T : Table) (rep seens builts : List ℕ) (c : ℕ) {k : Cell} (e : k ≡ T c) (s : classAt rep c ≡ c) (n : On builts c → ⊥) where
+  pub newly-given : Given k → Decides true (Newly T rep seens builts c)
+  newly-given g = decides-yes (record { stands = s; new = n; adds = Adds.given (subst Given e g) })
 
-  pub shows-new : classAt rep c ≡ c → On seens c → Gives (T c) (getD builts b 0) → (On seens a → On seens b → ⊥) → Finds T rep seens builts c (Parts a b)
-  shows-new s h g n = finds-parts (record {
-    stands = s;
-    whole = h;
-    gives = subst (λ j. Gives (T c) (getD builts j 0)) r g;
-    new = λ x y. n (subst (On seens) (sym l) x) (subst (On seens) (sym r) y);
-  })
+  pub newly-made : {r : Bool} → (On seens c → ⊥) → (Given k → ⊥) → Decides r (MadeBy k rep builts) → Decides r (Newly T rep seens builts c)
+  newly-made u v d = decides-iff d (λ m. record { stands = s; new = n; adds = Adds.made (subst (λ j. MadeBy j rep builts) e m) }) (λ w. only (w .adds))
+    where
+      only : Adds T rep seens builts c → MadeBy k rep builts
+      only (Adds.had o) = absurd (u o)
+      only (Adds.given g) = absurd (v (subst Given (sym e) g))
+      only (Adds.made m) = subst (λ j. MadeBy j rep builts) (sym e) m
 
-  pub shows-mute : (Gives (T c) (getD builts b 0) → ⊥) → Finds T rep seens builts c Nothing
-  shows-mute n = Finds.nothing (λ w. n (subst (λ j. Gives (T c) (getD builts j 0)) (sym r) (w .gives)))
+-- The classes of the parts of c, where they are newly seen: its cell k decides.
+module _ (T : Table) (rep seens builts : List ℕ) (c : ℕ) {k : Cell} (e : k ≡ T c) where
+  pub shows-mute : (Gives k rep builts → ⊥) → Finds T rep seens builts c Nothing
+  shows-mute n = Finds.nothing (λ w. n (subst (λ j. Gives j rep builts) (sym e) (w .gives)))
 
-  pub shows-old : On seens a → On seens b → Finds T rep seens builts c Nothing
-  shows-old x y = Finds.nothing (λ w. w .new (subst (On seens) l x) (subst (On seens) r y))
+  module _ {a b : ℕ} (l : a ≡ classAt rep (leftPart k c)) (r : b ≡ classAt rep (rightPart k c)) where
+    left-class : a ≡ leftClass T rep c
+    left-class = l ∙ ap (λ j. classAt rep (leftPart j c)) e
+
+    right-class : b ≡ rightClass T rep c
+    right-class = r ∙ ap (λ j. classAt rep (rightPart j c)) e
+
+    pub shows-old : On seens a → On seens b → Finds T rep seens builts c Nothing
+    shows-old x y = Finds.nothing (λ w. w .new (subst (On seens) left-class x) (subst (On seens) right-class y))
+
+    pub shows-new : classAt rep c ≡ c → On seens c → Gives k rep builts → (On seens a → On seens b → ⊥) → Finds T rep seens builts c (Parts a b)
+    shows-new s h g n = rw (left-class, right-class) (Finds.parts (record {
+      stands = s;
+      whole = h;
+      gives = subst (λ j. Gives j rep builts) e g;
+      new = λ x y. n (subst (On seens) (sym left-class) x) (subst (On seens) (sym right-class) y);
+    }))
 
 -- What is found is what a seen cell newly gives.
-pub found-parts : {T : Table} {rep seens builts : List ℕ} {c a b : ℕ} {p : Found} → Finds T rep seens builts c p → p ≡ Parts a b →
+pub found-parts : {T : Table} {rep seens builts : List ℕ} {c a b : ℕ} {p : Shown} → Finds T rep seens builts c p → p ≡ Parts a b →
     (a ≡ leftClass T rep c) × (b ≡ rightClass T rep c) × Shows T rep seens builts c
 found-parts (Finds.parts w) e = (cc, cc, w)
 found-parts (Finds.nothing n) e = clash (cc)
 
-pub found-nothing : {T : Table} {rep seens builts : List ℕ} {c : ℕ} {p : Found} → Finds T rep seens builts c p → p ≡ Nothing → Shows T rep seens builts c → ⊥
+pub found-nothing : {T : Table} {rep seens builts : List ℕ} {c : ℕ} {p : Shown} → Finds T rep seens builts c p → p ≡ Nothing → Shows T rep seens builts c → ⊥
 found-nothing (Finds.parts w) e = clash (cc)
 found-nothing (Finds.nothing n) e = n
 

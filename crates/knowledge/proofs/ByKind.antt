@@ -1,142 +1,164 @@
--- The decisions on a cell, by its kind.
-use mathlib.Core.Path.{_≡_, refl, sym, _∙_}
+-- What holds of one cell, by its kind: its parts, and whether it is given, is made, and gives its parts.
+use mathlib.Core.Path.{_≡_, refl, sym, subst}
 use mathlib.Core.Bool.{Bool, true, false}
 use mathlib.Core.Logic.{_⊎_, inl, inr}
-use Prim.Native.Nat.{ℕ, zero, suc, _+_, _*_, _≤_, _<_}
+use mathlib.Core.List.{List}
+use Prim.Native.Nat.{ℕ, _≤_, _<_}
 use native.Mathlib.Omega.{arith}
 use lib.Dec.{eqb}
-use Rattle.model.specs.Case.{Cell, AT, VA, ONE, TWO, PR, Part, in-arg, in-left, in-right}
-use Rattle.model.specs.Stored.{cellAt}
+use Rattle.model.specs.Case as case
+use Rattle.model.specs.Case.{AT, VA, ONE, TWO, SE, Part, in-arg, in-left, in-right}
 use Rattle.model.proofs.Read.{clash}
-use Rattle.model.proofs.Stored.{var-kind}
-use Rattle.theory.specs.Cells.{Composes, Makes}
+use Rattle.theory.specs.Cells.{Makes, classAt, On}
 use Rattle.theory.specs.Decides.{Decides}
 use Rattle.theory.proofs.Decides.{decides-yes, decides-no, decides-eqb, decides-iff}
-use Rattle.knowledge.specs.Sweeps.{leftPart, rightPart, Composed, Gives}
+use Rattle.theory.proofs.Parts.{makes-parts, makes-one}
+use Rattle.cells.specs.Cells.{asCell, partsOf, MadeOf, Opens, none, one, two, shut, open-pair, locked}
+use Rattle.cells.specs.declared.Cell.{Cell}
+use Rattle.cells.specs.declared.Cell.the-variants as cell
+use Rattle.cells.specs.declared.Parts.{Parts}
+use Rattle.cells.specs.declared.Parts.the-variants as parts
+use Rattle.cells.specs.declared.Opening.{Opening}
+use Rattle.cells.specs.declared.Opening.the-variants as opening
+use Rattle.knowledge.specs.Sweeps.{leftPart, rightPart, Given, MadeBy, Gives}
 
 -- ---- parts
 
-pub left-none : (k f s c : ℕ) → k < 2 → c ≡ leftPart (cellAt k f s) c
-left-none zero f s c h = refl
-left-none (suc zero) f s c h = refl
-left-none (suc (suc k)) f s c h = absurd (omega arith)
-
-pub left-two : (k f s c : ℕ) → 2 ≤ k → k < 4 → f ≡ leftPart (cellAt k f s) c
-left-two zero f s c h g = absurd (omega arith)
-left-two (suc zero) f s c h g = absurd (omega arith)
-left-two (suc (suc zero)) f s c h g = refl
-left-two (suc (suc (suc zero))) f s c h g = refl
-left-two (suc (suc (suc (suc k)))) f s c h g = absurd (omega arith)
-
-pub left-one : (k f s c : ℕ) → 4 ≤ k → s ≡ leftPart (cellAt k f s) c
-left-one zero f s c h = absurd (omega arith)
-left-one (suc zero) f s c h = absurd (omega arith)
-left-one (suc (suc zero)) f s c h = absurd (omega arith)
-left-one (suc (suc (suc zero))) f s c h = absurd (omega arith)
-left-one (suc (suc (suc (suc k)))) f s c h = refl
-
-pub right-none : (k f s c : ℕ) → k < 2 → c ≡ rightPart (cellAt k f s) c
-right-none zero f s c h = refl
-right-none (suc zero) f s c h = refl
-right-none (suc (suc k)) f s c h = absurd (omega arith)
-
-pub right-some : (k f s c : ℕ) → 2 ≤ k → s ≡ rightPart (cellAt k f s) c
-right-some zero f s c h = absurd (omega arith)
-right-some (suc zero) f s c h = absurd (omega arith)
-right-some (suc (suc zero)) f s c h = refl
-right-some (suc (suc (suc zero))) f s c h = refl
-right-some (suc (suc (suc (suc k)))) f s c h = refl
-
-pub left-low : (k : Cell) (c : ℕ) → ((d : ℕ) → Part k d → d < c) → leftPart k c ≤ c
+pub left-low : (k : case.Cell) (c : ℕ) → ((d : ℕ) → Part k d → d < c) → leftPart k c ≤ c
 left-low (AT n) c low = omega arith
 left-low VA c low = omega arith
 left-low (ONE g a) c low = omega (arith, low a in-arg)
 left-low (TWO h l r) c low = omega (arith, low l in-left)
 
-pub right-low : (k : Cell) (c : ℕ) → ((d : ℕ) → Part k d → d < c) → rightPart k c ≤ c
+pub right-low : (k : case.Cell) (c : ℕ) → ((d : ℕ) → Part k d → d < c) → rightPart k c ≤ c
 right-low (AT n) c low = omega arith
 right-low VA c low = omega arith
 right-low (ONE g a) c low = omega (arith, low a in-arg)
 right-low (TWO h l r) c low = omega (arith, low r in-right)
 
--- What makes a cell are its parts.
-pub makes-ends : {k : Cell} {i j : ℕ} (c : ℕ) → Makes k i j → (leftPart k c ≡ i) × (rightPart k c ≡ j)
+-- The parts of a cell, where it has none, one or two.
+pub ends-none : (k : case.Cell) (c : ℕ) → parts.None ≡ partsOf k → (c ≡ leftPart k c) × (c ≡ rightPart k c)
+ends-none (AT n) c e = (refl, refl)
+ends-none VA c e = (refl, refl)
+ends-none (ONE g a) c e = clash (cc)
+ends-none (TWO h l r) c e = clash (cc)
+
+pub ends-one : (k : case.Cell) (c : ℕ) {x : ℕ} → parts.One x ≡ partsOf k → (x ≡ leftPart k c) × (x ≡ rightPart k c)
+ends-one (AT n) c e = clash (cc)
+ends-one VA c e = clash (cc)
+ends-one (ONE g a) c e = (cc, cc)
+ends-one (TWO h l r) c e = clash (cc)
+
+pub ends-two : (k : case.Cell) (c : ℕ) {x y : ℕ} → parts.Two x y ≡ partsOf k → (x ≡ leftPart k c) × (y ≡ rightPart k c)
+ends-two (AT n) c e = clash (cc)
+ends-two VA c e = clash (cc)
+ends-two (ONE g a) c e = clash (cc)
+ends-two (TWO h l r) c e = (cc, cc)
+
+-- What makes a cell are its parts, and it has no others.
+pub makes-ends : {k : case.Cell} {i j : ℕ} (c : ℕ) → Makes k i j → (leftPart k c ≡ i) × (rightPart k c ≡ j)
 makes-ends c (Makes.ones s) = (refl, refl)
 makes-ends c Makes.twos = (refl, refl)
 
-pub part-ends : {k : Cell} {i j d : ℕ} (c : ℕ) → Makes k i j → Part k d → (leftPart k c ≡ d) ⊎ (rightPart k c ≡ d)
-part-ends c (Makes.ones s) in-arg = inl refl
-part-ends c Makes.twos in-left = inl refl
-part-ends c Makes.twos in-right = inr refl
+pub part-ends : {k : case.Cell} {d : ℕ} (c : ℕ) → Part k d → (leftPart k c ≡ d) ⊎ (rightPart k c ≡ d)
+part-ends c in-arg = inl refl
+part-ends c in-left = inl refl
+part-ends c in-right = inr refl
 
--- ---- kinds
+-- ---- is it given?
 
-pub makes-cell : (k f s : ℕ) → 2 ≤ k → (i : ℕ) × (j : ℕ) × Makes (cellAt k f s) i j
-makes-cell zero f s h = absurd (omega arith)
-makes-cell (suc zero) f s h = absurd (omega arith)
-makes-cell (suc (suc zero)) f s h = (f, s, Makes.twos)
-makes-cell (suc (suc (suc zero))) f s h = (f, s, Makes.twos)
-makes-cell (suc (suc (suc (suc k)))) f s h = (s, s, Makes.ones Composes.apps)
-
-pub makes-kind : (k f s : ℕ) {i j : ℕ} → Makes (cellAt k f s) i j → 2 ≤ k
-makes-kind zero f s h = elim h [ ]
-makes-kind (suc zero) f s h = elim h [ ]
-makes-kind (suc (suc k)) f s h = omega arith
-
-pub pair-kind : (k f s : ℕ) {l r : ℕ} → cellAt k f s ≡ PR l r → k ≡ 2
-pair-kind zero f s h = clash (cc)
-pair-kind (suc zero) f s h = clash (cc)
-pair-kind (suc (suc zero)) f s h = refl
-pair-kind (suc (suc (suc zero))) f s h = clash (cc)
-pair-kind (suc (suc (suc (suc k)))) f s h = clash (cc)
-
-pub zero-kind : (k f s : ℕ) → cellAt k f s ≡ AT 0 → (k ≡ 0) × (f * 256 + s ≡ 0)
-zero-kind zero f s h = (refl, cc)
-zero-kind (suc zero) f s h = clash (cc)
-zero-kind (suc (suc zero)) f s h = clash (cc)
-zero-kind (suc (suc (suc zero))) f s h = clash (cc)
-zero-kind (suc (suc (suc (suc k)))) f s h = clash (cc)
-
--- ---- the answers of `composed` and `gives`
-
-module _ (k f s x a b : ℕ) where
-  pub composed-name : {r : Bool} → (x ≡ 1 → ⊥) → k ≡ 0 → Decides r (f * 256 + s ≡ 0) → Decides r (Composed (cellAt k f s) x a b)
-  composed-name u e d = decides-iff d (λ z. Composed.zero (rw (e, z))) only
+module _ {k : Cell} where
+  pub given-name : {n : ℕ} → k ≡ cell.Atom n → Decides (eqb n 0) (Given (asCell k))
+  given-name {n} e = rw e (decides-eqb n 0 (λ z. subst (λ i. Given (AT i)) (sym z) Given.zero) only)
     where
-      only : Composed (cellAt k f s) x a b → f * 256 + s ≡ 0
-      only (Composed.had h) = absurd (u h)
-      only (Composed.free h) = clash (sym e ∙ var-kind k f s h)
-      only (Composed.zero h) = zero-kind k f s h .1
-      only (Composed.makes m p q) = absurd (omega (arith, makes-kind k f s m))
+      only : {n : ℕ} → Given (AT n) → n ≡ 0
+      only Given.zero = refl
 
-  pub composed-free : k ≡ 1 → Composed (cellAt k f s) x a b
-  composed-free e = Composed.free (rw e)
+  pub given-variable : k ≡ cell.Variable → Decides true (Given (asCell k))
+  given-variable e = rw e (decides-yes Given.free)
 
-  pub composed-parts : (x ≡ 1 → ⊥) → (k ≡ 0 → ⊥) → (k ≡ 1 → ⊥) → Composed (cellAt k f s) x a b → (a ≡ 1) × (b ≡ 1)
-  composed-parts u v w (Composed.had h) = absurd (u h)
-  composed-parts u v w (Composed.free h) = absurd (w (var-kind k f s h))
-  composed-parts u v w (Composed.zero h) = absurd (v (zero-kind k f s h .0))
-  composed-parts u v w (Composed.makes m p q) = (p, q)
+  pub given-pair : {l r : ℕ} → k ≡ cell.Pair l r → Decides false (Given (asCell k))
+  given-pair e = rw e (decides-no λ g. elim g [ ])
 
-  pub composed-made : (x ≡ 1 → ⊥) → (k ≡ 0 → ⊥) → (k ≡ 1 → ⊥) → a ≡ 1 → Decides (eqb b 1) (Composed (cellAt k f s) x a b)
-  composed-made u v w e =
-      let (i, j, m) = makes-cell k f s (omega arith) in
-      decides-eqb b 1 (λ z. Composed.makes m e z) (λ z. composed-parts u v w z .1)
+  pub given-seal : {b c : ℕ} → k ≡ cell.Seal b c → Decides false (Given (asCell k))
+  given-seal e = rw e (decides-no λ g. elim g [ ])
 
-module _ (k f s b : ℕ) where
-  gives-kind : Gives (cellAt k f s) b → 2 ≤ k
-  gives-kind (Gives.pairs e) = omega (arith, pair-kind k f s e)
-  gives-kind (Gives.keys m e) = makes-kind k f s m
+  pub given-apply : {f a : ℕ} → k ≡ cell.Apply f a → Decides false (Given (asCell k))
+  given-apply e = rw e (decides-no λ g. elim g [ ])
 
-  pub gives-none : k < 2 → Decides false (Gives (cellAt k f s) b)
-  gives-none h = decides-no (λ g. omega (arith, gives-kind g))
+-- ---- is it made, and does it give its parts?
 
-  pub gives-pair : k ≡ 2 → Decides true (Gives (cellAt k f s) b)
-  gives-pair e = decides-yes (Gives.pairs {l = f} {r = s} (rw e))
+module _ {k : case.Cell} {p : Parts} (w : MadeOf k p) where
+  one-makes : {a : ℕ} → p ≡ parts.One a → Makes k a a
+  one-makes {a} e = go (subst (MadeOf k) e w)
+    where
+      go : MadeOf k (parts.One a) → Makes k a a
+      go (one e m) = m
 
-  gives-mark : (k ≡ 2 → ⊥) → Gives (cellAt k f s) b → b ≡ 1
-  gives-mark n (Gives.pairs e) = absurd (n (pair-kind k f s e))
-  gives-mark n (Gives.keys m e) = e
+  two-makes : {a b : ℕ} → p ≡ parts.Two a b → Makes k a b
+  two-makes {a} {b} e = go (subst (MadeOf k) e w)
+    where
+      go : MadeOf k (parts.Two a b) → Makes k a b
+      go (two e m) = m
 
-  pub gives-key : 2 ≤ k → (k ≡ 2 → ⊥) → Decides (eqb b 1) (Gives (cellAt k f s) b)
-  gives-key h n = let (i, j, m) = makes-cell k f s h in decides-eqb b 1 (λ e. Gives.keys m e) (gives-mark n)
+  pub one-part : {a : ℕ} → p ≡ parts.One a → Part k a
+  one-part e = makes-parts (one-makes e) .0
+
+  pub two-parts : {a b : ℕ} → p ≡ parts.Two a b → Part k a × Part k b
+  two-parts e = makes-parts (two-makes e)
+
+-- A seal has its key.
+locked-seal : {k : case.Cell} {o : Opening} {b c : ℕ} → Opens k o → o ≡ opening.Locked b c → k ≡ SE b c
+locked-seal {k} {o} {b} {c} w e = go (subst (Opens k) e w)
+  where
+    go : Opens k (opening.Locked b c) → k ≡ SE b c
+    go (locked q) = q
+
+pub locked-key : {k : case.Cell} {o : Opening} {b c : ℕ} → Opens k o → o ≡ opening.Locked b c → Part k c
+locked-key w e = rw (locked-seal w e) in-right
+
+module _ {k : case.Cell} {rep builts : List ℕ} where
+  -- What is made of a and b has both built.
+  made-both : {a b : ℕ} → Makes k a b → MadeBy k rep builts → On builts (classAt rep a) × On builts (classAt rep b)
+  made-both m (MadeBy.makes n x y) =
+      let (e, f) = makes-one n m in
+      (subst (λ d. On builts (classAt rep d)) e x, subst (λ d. On builts (classAt rep d)) f y)
+
+  module _ {p : Parts} (w : MadeOf k p) where
+    pub made-none : p ≡ parts.None → Decides false (MadeBy k rep builts)
+    made-none e = decides-no (go (subst (MadeOf k) e w))
+      where
+        go : MadeOf k parts.None → MadeBy k rep builts → ⊥
+        go (none n) (MadeBy.makes m x y) = n _ _ m
+
+    pub made-one : {a : ℕ} {r : Bool} → p ≡ parts.One a → Decides r (On builts (classAt rep a)) → Decides r (MadeBy k rep builts)
+    made-one e d = let m = one-makes w e in decides-iff d (λ x. MadeBy.makes m x x) (λ y. made-both m y .0)
+
+    pub made-not : {a b : ℕ} → p ≡ parts.Two a b → (On builts (classAt rep a) → ⊥) → Decides false (MadeBy k rep builts)
+    made-not e n = decides-no (λ y. n (made-both (two-makes w e) y .0))
+
+    pub made-two : {a b : ℕ} {r : Bool} → p ≡ parts.Two a b → On builts (classAt rep a) → Decides r (On builts (classAt rep b)) → Decides r (MadeBy k rep builts)
+    made-two e x d = let m = two-makes w e in decides-iff d (λ y. MadeBy.makes m x y) (λ y. made-both m y .1)
+
+  module _ {o : Opening} (w : Opens k o) where
+    pub gives-open : {l r : ℕ} → o ≡ opening.Open l r → Decides true (Gives k rep builts)
+    gives-open {l} {r} e = decides-yes (go (subst (Opens k) e w))
+      where
+        go : Opens k (opening.Open l r) → Gives k rep builts
+        go (open-pair q) = Gives.pairs q
+
+    pub gives-locked : {b c : ℕ} {r : Bool} → o ≡ opening.Locked b c → Decides r (On builts (classAt rep c)) → Decides r (Gives k rep builts)
+    gives-locked {b} {c} e d = let q = locked-seal w e in decides-iff d (λ x. Gives.keys q x) (key q)
+      where
+        key : k ≡ SE b c → Gives k rep builts → On builts (classAt rep c)
+        key q (Gives.pairs z) = clash (cc)
+        key q (Gives.keys {c = d} z x) = let i : d ≡ c = cc in subst (λ j. On builts (classAt rep j)) i x
+        key q (Gives.parts y) = made-both (subst (λ z. Makes z b c) (sym q) Makes.twos) y .1
+
+    pub gives-shut : {r : Bool} → o ≡ opening.Shut → Decides r (MadeBy k rep builts) → Decides r (Gives k rep builts)
+    gives-shut e d = decides-iff d (λ y. Gives.parts y) (go (subst (Opens k) e w))
+      where
+        go : Opens k opening.Shut → Gives k rep builts → MadeBy k rep builts
+        go (shut p s) (Gives.pairs z) = absurd (p _ _ z)
+        go (shut p s) (Gives.keys z x) = absurd (s _ _ z)
+        go (shut p s) (Gives.parts y) = y

@@ -6,17 +6,16 @@ use mathlib.Core.List.{List}
 use Prim.Native.Nat.{ℕ, _≤_, _<_}
 use native.Mathlib.Omega.{arith}
 use native.Mathlib.Decide.{decLt}
-use lib.ListN.{getD}
-use Rattle.model.specs.Case.{AT, PR, Table, Run, Part}
+use Rattle.model.specs.Case.{AT, Table, Run, Part}
 use Rattle.model.proofs.Rows.{no-part}
-use Rattle.theory.specs.Cells.{Makes, Opening, classAt, On}
+use Rattle.theory.specs.Cells.{Opening, classAt, On}
 use Rattle.theory.specs.Level.{Side, seen, built, Mark}
 use Rattle.theory.specs.Sweep.{Swept}
 use Rattle.theory.proofs.Parts.{opening-part}
 use Rattle.theory.proofs.Sweep.{On as sideOn, mark-exact}
-use Rattle.knowledge.specs.Knowledge.{ClassRow, Marked, Starts, Opened}
-use Rattle.knowledge.specs.Sweeps.{leftPart, rightPart, leftClass, rightClass, Composed, Gives, Newly, Shows, SeenOnly, BuiltOnly, Rising, Falling, Turned, OwnMarks}
-use Rattle.knowledge.proofs.ByKind.{makes-ends, part-ends}
+use Rattle.knowledge.specs.Knowledge.{ClassRow, MarkRow, Starts, Opened}
+use Rattle.knowledge.specs.Sweeps.{leftClass, rightClass, Given, MadeBy, Gives, Adds, Newly, Shows, SeenOnly, BuiltOnly, Rising, Falling, Turned, OwnMarks}
+use Rattle.knowledge.proofs.ByKind.{part-ends}
 use Rattle.theory.proofs.MarkRows.{on?}
 
 -- ---- two sweeps
@@ -53,14 +52,14 @@ module _ {T : Table} {n : ℕ} {rep s b s′ b′ : List ℕ} {up down : Bool} (
 
 -- The marks s and b come from s₀ and b₀ by sweeps.
 pub record Between (T : Table) (rep s₀ b₀ s b : List ℕ) : Type 0 where
-  pub seen-marked : Marked rep s
-  pub built-marked : Marked rep b
+  pub seen-marked : MarkRow rep s
+  pub built-marked : MarkRow rep b
   pub seen-kept : (c : ℕ) → On s₀ c → On s c
   pub built-kept : (c : ℕ) → On b₀ c → On b c
   pub seen-sound : (ev : Run) (p : ℕ) → SeenOnly T rep ev p s₀ → BuiltOnly T rep ev p b₀ → SeenOnly T rep ev p s
   pub built-sound : (ev : Run) (p : ℕ) → SeenOnly T rep ev p s₀ → BuiltOnly T rep ev p b₀ → BuiltOnly T rep ev p b
 
-pub between-none : {T : Table} {rep s b : List ℕ} → Marked rep s → Marked rep b → Between T rep s b s b
+pub between-none : {T : Table} {rep s b : List ℕ} → MarkRow rep s → MarkRow rep b → Between T rep s b s b
 between-none u v = record {
   seen-marked = u;
   built-marked = v;
@@ -101,11 +100,11 @@ module _ (T : Table) {n : ℕ} {rep : List ℕ} (w : ClassRow n rep) (beyond : (
   whole c d h q = no-part (subst (λ k. Part k d) (beyond c h) q)
 
   module _ (s b : List ℕ) (kept : (c : ℕ) → On b₀ c → On b c) (still : (c : ℕ) → c < n → (Newly T rep s b c → ⊥) × (Shows T rep s b c → ⊥)) where
-    built-on : (c : ℕ) → c < n → classAt rep c ≡ c → Composed (T c) (getD s c 0) (getD b (leftClass T rep c) 0) (getD b (rightClass T rep c) 0) → On b c
-    built-on c h e k = elim (on? b c) [ inl o ↦ o | inr x ↦ absurd (still c h .0 (record { stands = e; new = x; composed = k })) ]
+    built-on : (c : ℕ) → c < n → classAt rep c ≡ c → Adds T rep s b c → On b c
+    built-on c h e k = elim (on? b c) [ inl o ↦ o | inr x ↦ absurd (still c h .0 (record { stands = e; new = x; adds = k })) ]
 
-    seen-on : (c : ℕ) → c < n → classAt rep c ≡ c → On s c → Gives (T c) (getD b (rightClass T rep c) 0) → On s (leftClass T rep c) × On s (rightClass T rep c)
-    seen-on c h e o g = elim (on? s (leftClass T rep c)) [
+    ends-on : (c : ℕ) → c < n → classAt rep c ≡ c → On s c → Gives (T c) rep b → On s (leftClass T rep c) × On s (rightClass T rep c)
+    ends-on c h e o g = elim (on? s (leftClass T rep c)) [
       | inr x ↦ absurd (still c h .1 (record { stands = e; whole = o; gives = g; new = λ l r. x l }))
       | inl l ↦ elim (on? s (rightClass T rep c)) [
         | inl r ↦ (l, r)
@@ -113,39 +112,31 @@ module _ (T : Table) {n : ℕ} {rep : List ℕ} (w : ClassRow n rep) (beyond : (
       ]
     ]
 
-    made-on : (c i j : ℕ) → c < n → classAt rep c ≡ c → Makes (T c) i j → On s c → On b (classAt rep j) → On s (leftClass T rep c) × On s (rightClass T rep c)
-    made-on c i j h e m o k = seen-on c h e o (Gives.keys m (subst (λ d. On b (classAt rep d)) (sym (makes-ends c m .1)) k))
+    -- A part of what gives its parts; there is one only of a cell of the table.
+    part-on : (c d : ℕ) → classAt rep c ≡ c → On s c → Gives (T c) rep b → Part (T c) d → On s (classAt rep d)
+    part-on c d e o g q = elim (below? c n) [
+      | inl h ↦ (let (l, r) = ends-on c h e o g in
+          elim (part-ends c q) [ inl z ↦ subst (λ k. On s (classAt rep k)) z l | inr z ↦ subst (λ k. On s (classAt rep k)) z r ])
+      | inr h ↦ absurd (whole c d h q)
+    ]
 
-    pair-on : (c l r : ℕ) → c < n → classAt rep c ≡ c → T c ≡ PR l r → On s c → On s (classAt rep l) × On s (classAt rep r)
-    pair-on c l r h e q o =
-        let (x, y) = seen-on c h e o (Gives.pairs q) in
-        (subst (λ d. On s (classAt rep d)) (ap (λ k. leftPart k c) q) x, subst (λ d. On s (classAt rep d)) (ap (λ k. rightPart k c) q) y)
+    opening-gives : {c k d : ℕ} → Opening T c k d → On b (classAt rep k) → Gives (T c) rep b
+    opening-gives (Opening.lefts q) x = Gives.pairs q
+    opening-gives (Opening.rights q) x = Gives.pairs q
+    opening-gives (Opening.bodies q) x = Gives.keys q x
 
-    opens-on : (c k d : ℕ) → c < n → classAt rep c ≡ c → Opening T c k d → On s c → On b (classAt rep k) → On s (classAt rep d)
-    opens-on c k d h e (Opening.lefts {l = l} {r = r} q) o x = pair-on c l r h e q o .0
-    opens-on c k d h e (Opening.rights {l = l} {r = r} q) o x = pair-on c l r h e q o .1
-    opens-on c k d h e (Opening.bodies q) o x =
-        subst (λ i. On s (classAt rep i)) (ap (λ z. leftPart z c) q) (made-on c d k h e (subst (λ z. Makes z d k) (sym q) Makes.twos) o x .0)
-
-    parts-on : (c i j d : ℕ) → c < n → classAt rep c ≡ c → Makes (T c) i j → Part (T c) d → On s c → On b (classAt rep j) → On s (classAt rep d)
-    parts-on c i j d h e m q o x =
-        let (l, r) = made-on c i j h e m o x in
-        elim (part-ends c m q) [ inl z ↦ subst (λ k. On s (classAt rep k)) z l | inr z ↦ subst (λ k. On s (classAt rep k)) z r ]
-
-    makes-on : (c i j : ℕ) → c < n → classAt rep c ≡ c → Makes (T c) i j → On b (classAt rep i) → On b (classAt rep j) → On b c
-    makes-on c i j h e m x y =
-        let (l, r) = makes-ends c m in
-        built-on c h e (Composed.makes m (subst (λ d. On b (classAt rep d)) (sym l) x) (subst (λ d. On b (classAt rep d)) (sym r) y))
+    adds-on : (c : ℕ) → classAt rep c ≡ c → Adds T rep s b c → On b c
+    adds-on c e k = elim (below? c n) [ inl h ↦ built-on c h e k | inr h ↦ kept c (own-on c h e) ]
 
     pub still-swept : (ev : Run) (p : ℕ) (s₀ : List ℕ) → ((c : ℕ) → On s₀ c → On s c) → Starts T rep ev p s₀ → Swept T (classAt rep) ev p (On s) (On b)
     still-swept ev p s₀ from st = record {
       learnt = λ c h. from (classAt rep c) (st .low c h);
-      opens = λ c k d e o x y. elim (below? c n) [ inl h ↦ opens-on c k d h e o x y | inr h ↦ absurd (whole c d h (opening-part o)) ];
-      parts = λ c i j d e m q o x y. elim (below? c n) [ inl h ↦ parts-on c i j d h e m q o y | inr h ↦ absurd (whole c d h q) ];
-      free = λ c e q. elim (below? c n) [ inl h ↦ built-on c h e (Composed.free q) | inr h ↦ kept c (own-on c h e) ];
-      zero = λ c e q. elim (below? c n) [ inl h ↦ built-on c h e (Composed.zero q) | inr h ↦ kept c (own-on c h e) ];
-      had = λ c e o. elim (below? c n) [ inl h ↦ built-on c h e (Composed.had o) | inr h ↦ kept c (own-on c h e) ];
-      makes = λ c i j e m x y. elim (below? c n) [ inl h ↦ makes-on c i j h e m x y | inr h ↦ kept c (own-on c h e) ];
+      opens = λ c k d e o x y. part-on c d e x (opening-gives o y) (opening-part o);
+      parts = λ c i j d e m q o x y. part-on c d e o (Gives.parts (MadeBy.makes m x y)) q;
+      free = λ c e q. adds-on c e (Adds.given (subst Given (sym q) Given.free));
+      zero = λ c e q. adds-on c e (Adds.given (subst Given (sym q) Given.zero));
+      had = λ c e o. adds-on c e (Adds.had o);
+      makes = λ c i j e m x y. adds-on c e (Adds.made (MadeBy.makes m x y));
     }
 
   -- So where a turn changes nothing, the marks are found.

@@ -13,7 +13,7 @@ use Rattle.model.proofs.Finite.{eq?}
 use Rattle.model.proofs.Rows.{zeros}
 use Rattle.theory.specs.Cells.{classAt, On}
 use Rattle.theory.proofs.MarkRows.{on?, set-cases, set-on, set-kept}
-use Rattle.knowledge.specs.Knowledge.{ClassRow, Marked, Learns}
+use Rattle.knowledge.specs.Knowledge.{ClassRow, MarkRow, Learns}
 use Rattle.knowledge.specs.Sweeps.{missing, Grown, OwnMarks}
 
 -- ---- one mark
@@ -39,19 +39,19 @@ set-bits m j i h b = elim (eq? i j) [
   | inr n ↦ omega (arith, getD-set-other m j i 1 0 n)
 ]
 
-pub marked-set : {rep m : List ℕ} {j : ℕ} → j < length m → classAt rep j ≡ j → Marked rep m → Marked rep (set m j 1)
+pub marked-set : {rep m : List ℕ} {j : ℕ} → j < length m → classAt rep j ≡ j → MarkRow rep m → MarkRow rep (set m j 1)
 marked-set {rep} {m} {j} h s w = record {
   bits = λ c. set-bits m j c h (w .bits c);
   stand = λ c e. elim (set-cases m j c e) [ inl q ↦ subst (λ k. classAt rep k ≡ k) (sym q) s | inr o ↦ w .stand c o ];
 }
 
 -- Each cell is marked or not.
-pub marked? : {rep marks : List ℕ} → Marked rep marks → (c : ℕ) → On marks c ⊎ (getD marks c 0 ≡ 0)
+pub marked? : {rep marks : List ℕ} → MarkRow rep marks → (c : ℕ) → On marks c ⊎ (getD marks c 0 ≡ 0)
 marked? {rep} {marks} w c = elim (on? marks c) [ inl o ↦ inl o | inr n ↦ inr (omega (arith, w .bits c, n)) ]
 
 -- ---- the row of a sweep
 
-pub grown-none : {rep m : List ℕ} → length m ≡ 129 → Marked rep m → Grown rep m m false
+pub grown-none : {rep m : List ℕ} → length m ≡ 129 → MarkRow rep m → Grown rep m m false
 grown-none l w = record { long = l; marked = w; kept = λ c e. e; same = λ e. refl; down = omega arith; moved = λ e. absurd (false≢true e) }
 
 module _ {rep m r : List ℕ} {ch : Bool} (w : Grown rep m r ch) where
@@ -96,7 +96,7 @@ noMarks = replicate 129 0
 pub none-on : (c : ℕ) → On noMarks c → ⊥
 none-on c e = omega (arith, zeros 129 c, e)
 
-pub none-marked : {rep : List ℕ} → Marked rep noMarks
+pub none-marked : {rep : List ℕ} → MarkRow rep noMarks
 none-marked = record { bits = λ c. omega (arith, zeros 129 c); stand = λ c e. absurd (none-on c e) }
 
 pub own-none : {n : ℕ} {rep : List ℕ} {z : ℕ} → z ≡ classAt rep 128 → z < n → OwnMarks n rep noMarks
@@ -113,7 +113,7 @@ own-one {n} {rep} {z} w e h =
 
 -- ---- one learnt cell
 
-pub learns : {n : ℕ} {rep m : List ℕ} {c z : ℕ} → ClassRow n rep → length m ≡ 129 → Marked rep m → z ≡ classAt rep c → Learns rep m c (set m z 1)
+pub learns : {n : ℕ} {rep m : List ℕ} {c z : ℕ} → ClassRow n rep → length m ≡ 129 → MarkRow rep m → z ≡ classAt rep c → Learns rep m c (set m z 1)
 learns {n} {rep} {m} {c} {z} w l k e =
     let i : z < length m = omega (arith, w .low c) in
     record {

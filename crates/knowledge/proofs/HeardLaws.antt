@@ -1,20 +1,20 @@
 -- What he can build from all that is learnt: the marks of learnt cells event by event, what the opened marks say of a table without variables, and of a file.
-use mathlib.Core.Path.{_≡_, sym, _∙_}
+use mathlib.Core.Path.{_≡_, sym, _∙_, ap}
 use mathlib.Core.Logic.{_↔_}
 use mathlib.Core.List.{List}
 use mathlib.Core.Option.{some, none}
 use Prim.Native.Nat.{ℕ, _+_, _≤_, _<_}
 use lib.ListN.{length, getD}
 use Rattle.model.specs.Message.{Message, atom}
-use Rattle.model.specs.Case.{VA, MK, LN, File, Ground, tableOf, runOf}
+use Rattle.model.specs.Case.{VA, Event, MK, LN, File, Ground, tableOf, runOf}
 use Rattle.model.specs.Format.{readFile, accepted, firstVariable}
 use Rattle.model.specs.Replies.{messagesOf}
-use Rattle.model.specs.Stored.{tableAt, runAt}
+use Rattle.model.specs.Stored.{tableIn, eventIn, runIn}
 use Rattle.model.proofs.Read.{clash, message-reads}
-use Rattle.model.proofs.Stored.{run-make, run-learn, run-below}
+use Rattle.model.proofs.Stored.{run-at, run-below}
 use Rattle.model.proofs.Accepted.{accepted-file}
 use Rattle.model.proofs.Variables.{Solid, no-variable}
-use Rattle.theory.specs.Cells.{Rows, classAt}
+use Rattle.theory.specs.Cells.{TableWords, classAt}
 use Rattle.theory.proofs.Rows.{rows-formed}
 use Rattle.theory.proofs.Sweep.{mark-later}
 use Rattle.classes.specs.Twins.{Start}
@@ -30,44 +30,47 @@ use Rattle.knowledge.proofs.Ground.{built-iff-heard}
 
 -- ---- event by event
 
-module _ {n : ℕ} {rep : List ℕ} (w : ClassRow n rep) (m : ℕ) (kinds cells : List ℕ) where
-  pub learnt-none : LearntAll rep (runAt m kinds cells) 0 noMarks
-  learnt-none = record { marked = none-marked; starts = λ T. starts-none T w (runAt m kinds cells) }
+module _ {n : ℕ} {rep : List ℕ} (w : ClassRow n rep) (m : ℕ) (run : List ℕ) where
+  pub learnt-none : LearntAll rep (runIn m run) 0 noMarks
+  learnt-none = record { marked = none-marked; starts = λ T. starts-none T w (runIn m run) }
 
-  module _ (p : ℕ) (h : p < m) {s : List ℕ} (all : LearntAll rep (runAt m kinds cells) p s) where
+  module _ (p : ℕ) (h : p < m) {s : List ℕ} (all : LearntAll rep (runIn m run) p s) where
+    at : {e : Event} → eventIn (getD run p 0) ≡ e → runIn m run p ≡ some e
+    at i = run-at m run p h ∙ ap some i
+
     -- An MK adds nothing.
-    pub learnt-make : getD kinds p 0 ≡ 0 → LearntAll rep (runAt m kinds cells) (p + 1) s
-    learnt-make e = record { marked = all .marked; starts = λ T. starts-same T w (runAt m kinds cells) p (all .starts T) (λ c i. make≢learn (sym (run-make m kinds cells p h e) ∙ i)) }
+    pub learnt-make : {x : ℕ} → eventIn (getD run p 0) ≡ MK x → LearntAll rep (runIn m run) (p + 1) s
+    learnt-make e = record { marked = all .marked; starts = λ T. starts-same T w (runIn m run) p (all .starts T) (λ c i. make≢learn (sym (at e) ∙ i)) }
       where
         make≢learn : {x y : ℕ} → some (MK x) ≡ some (LN y) → ⊥
         make≢learn i = clash (cc)
 
     -- An LN adds the class of its cell.
-    pub learnt-learn : {r : List ℕ} → (getD kinds p 0 ≡ 0 → ⊥) → Learns rep s (getD cells p 0) r → LearntAll rep (runAt m kinds cells) (p + 1) r
-    learnt-learn ne x = record { marked = x .marked; starts = λ T. starts-learn T w (runAt m kinds cells) p (all .starts T) (getD cells p 0) (run-learn m kinds cells p h ne) x }
+    pub learnt-learn : {x : ℕ} {r : List ℕ} → eventIn (getD run p 0) ≡ LN x → Learns rep s x r → LearntAll rep (runIn m run) (p + 1) r
+    learnt-learn {x} e l = record { marked = l .marked; starts = λ T. starts-learn T w (runIn m run) p (all .starts T) x (at e) l }
 
 -- ---- the first classes, opened
 
-pub heard-opened : {n : ℕ} {K F S rep start : List ℕ} {r : Marks} → Rows n K F S → Start n (tableAt K F S) rep → (m : ℕ) (kinds cells : List ℕ) →
-    m ≤ 128 → LearntAll rep (runAt m kinds cells) m start → Opened (tableAt K F S) rep start r →
-    HeardOpened n (tableAt K F S) (runAt m kinds cells) (record { rep = rep; built = r .built })
-heard-opened {n} {K} {F} {S} {rep} {start} w s m kinds cells few all o = record {
+pub heard-opened : {n : ℕ} {words rep start : List ℕ} {r : Marks} → TableWords n words → Start n (tableIn words) rep → (m : ℕ) (run : List ℕ) →
+    m ≤ 128 → LearntAll rep (runIn m run) m start → Opened (tableIn words) rep start r →
+    HeardOpened n (tableIn words) (runIn m run) (record { rep = rep; built = r .built })
+heard-opened {n} {words} {rep} {start} w s m run few all o = record {
   classes = s;
   built-marked = o .built-marked;
-  made = o .built (runAt m kinds cells) 128 behind;
+  made = o .built (runIn m run) 128 behind;
   exact = exact;
-  built = λ solid msg g. built-iff-heard o (runAt m kinds cells) m (all .starts (tableAt K F S)) (kept-row w (s .solved .kept)) (rows-formed w) solid msg g
-      (exact solid msg g) (λ q c i. run-below m kinds cells q i);
+  built = λ solid msg g. built-iff-heard o (runIn m run) m (all .starts (tableIn words)) (kept-row w (s .solved .kept)) (rows-formed w) solid msg g
+      (exact solid msg g) (λ q c i. run-below m run q i);
 }
   where
-    exact : ((c : ℕ) → tableAt K F S c ≡ VA → ⊥) → (msg : ℕ → Message) → Ground (tableAt K F S) msg → (c d : ℕ) → (msg c ≡ msg d) ↔ (classAt rep c ≡ classAt rep d)
-    exact = start-twins n (tableAt K F S) rep s
+    exact : ((c : ℕ) → tableIn words c ≡ VA → ⊥) → (msg : ℕ → Message) → Ground (tableIn words) msg → (c d : ℕ) → (msg c ≡ msg d) ↔ (classAt rep c ≡ classAt rep d)
+    exact = start-twins n (tableIn words) rep s
 
     -- Behind all events the same is learnt.
-    behind : Starts (tableAt K F S) rep (runAt m kinds cells) 128 start
+    behind : Starts (tableIn words) rep (runIn m run) 128 start
     behind = record {
-      low = λ c (q, lt, e). all .starts (tableAt K F S) .low c (q, run-below m kinds cells q e, e);
-      high = λ c x. mark-later (tableAt K F S) (classAt rep) (runAt m kinds cells) m (s .solved .kept .reps .idem) few (all .starts (tableAt K F S) .high c x);
+      low = λ c (q, lt, e). all .starts (tableIn words) .low c (q, run-below m run q e, e);
+      high = λ c x. mark-later (tableIn words) (classAt rep) (runIn m run) m (s .solved .kept .reps .idem) few (all .starts (tableIn words) .high c x);
     }
 
 -- ---- of an accepted file

@@ -1,7 +1,7 @@
 -- What the contracts that other crates rely on settle: two replies for one input, rows of 129 bytes, are equal.
-use mathlib.Core.Path.{_≡_, refl, sym, _∙_, subst}
+use mathlib.Core.Path.{_≡_, sym, _∙_, subst}
 use mathlib.Core.Logic.{_↔_, inl, inr}
-use mathlib.Core.Bool.{Bool, true, false, cond}
+use mathlib.Core.Bool.{cond}
 use mathlib.Core.List.{List}
 use mathlib.Core.Option.{some, none}
 use Prim.Native.Nat.{ℕ, _≤_, _<_}
@@ -15,11 +15,10 @@ use Rattle.model.proofs.Read.{clash}
 use Rattle.theory.specs.Cells.{classAt, On}
 use Rattle.theory.specs.Level.{Mark, built}
 use Rattle.theory.proofs.MarkRows.{on?}
-use Rattle.theory.specs.Decides.{Decides}
 use Rattle.classes.proofs.SettledLaws.{row-ext, start-settled}
 use Rattle.knowledge.specs.declared.Marks.{Marks}
 use Rattle.knowledge.specs.declared.heard.Knowledge.{Knowledge}
-use Rattle.knowledge.specs.Knowledge.{Marked, Learns, Starts, Opened}
+use Rattle.knowledge.specs.Knowledge.{MarkRow, Learns, Starts, Opened}
 use Rattle.knowledge.specs.Sweeps.{OwnMarks}
 use Rattle.knowledge.specs.Heard.{HeardOpened}
 
@@ -39,12 +38,12 @@ bits-ext r r′ w w′ l l′ to from =
     zero x h ne = elim (decLt 0 x) [ yes p ↦ absurd (ne (omega arith)) | no p ↦ omega arith ]
 
 -- Two rows of marks with the same marks are equal.
-pub marks-ext : {rep : List ℕ} (r r′ : List ℕ) → Marked rep r → Marked rep r′ → length r ≡ 129 → length r′ ≡ 129 →
+pub marks-ext : {rep : List ℕ} (r r′ : List ℕ) → MarkRow rep r → MarkRow rep r′ → length r ≡ 129 → length r′ ≡ 129 →
     ((c : ℕ) → On r c → On r′ c) → ((c : ℕ) → On r′ c → On r c) → r ≡ r′
 marks-ext r r′ w w′ = bits-ext r r′ (w .bits) (w′ .bits)
 
 -- Two rows of marks that say the same of every class have the same marks.
-by-class : {rep : List ℕ} (r r′ : List ℕ) {P : ℕ → Type 0} → Marked rep r → ((c : ℕ) → On r (classAt rep c) ↔ P c) → ((c : ℕ) → On r′ (classAt rep c) ↔ P c) →
+by-class : {rep : List ℕ} (r r′ : List ℕ) {P : ℕ → Type 0} → MarkRow rep r → ((c : ℕ) → On r (classAt rep c) ↔ P c) → ((c : ℕ) → On r′ (classAt rep c) ↔ P c) →
     (c : ℕ) → On r c → On r′ c
 by-class r r′ w h h′ c o =
     let e = w .stand c o in
@@ -82,7 +81,7 @@ learnt-on start q c e = elim (on? start q) [
   | inr o ↦ (let i : none ≡ some (LN c) = sym (learning-off start q o) ∙ e in clash (cc))
 ]
 
-module _ (T : Table) (rep start : List ℕ) (w : Marked rep start) (long : length start ≡ 129) where
+module _ (T : Table) (rep start : List ℕ) (w : MarkRow rep start) (long : length start ≡ 129) where
   from-marks : Starts T rep (learning start) 129 start
   from-marks = record {
     low = λ c (q, lt, e). (let o = learnt-on start q c e in subst (On start) (sym (w .stand c o)) o);
@@ -109,7 +108,7 @@ pub open-heard-settled : (n : ℕ) (T : Table) (ev : Run) → Lower T → (r r�
     length (r .built) ≡ 129 → length (r′ .built) ≡ 129 → r ≡ r′
 open-heard-settled n T ev low r r′ o o′ l l′ =
     let e : r .rep ≡ r′ .rep = start-settled T low n (r .rep) (r′ .rep) (o .classes) (o′ .classes) in
-    let m′ : Marked (r .rep) (r′ .built) = subst (λ p. Marked p (r′ .built)) (sym e) (o′ .built-marked) in
+    let m′ : MarkRow (r .rep) (r′ .built) = subst (λ p. MarkRow p (r′ .built)) (sym e) (o′ .built-marked) in
     let d′ : (c : ℕ) → On (r′ .built) (classAt (r .rep) c) ↔ Mark T (classAt (r .rep)) ev 128 built c =
     subst (λ p. (c : ℕ) → On (r′ .built) (classAt p c) ↔ Mark T (classAt p) ev 128 built c) (sym e) (o′ .made) in
     let f : r .built ≡ r′ .built = marks-ext (r .built) (r′ .built) (o .built-marked) m′ l l′

@@ -5,76 +5,76 @@ use mathlib.Core.Bool.{Bool, true, false, true≢false}
 use mathlib.Core.List.{List}
 use Prim.Native.Nat.{ℕ, _+_, _≤_}
 use native.Mathlib.Omega.{arith}
-use lib.ListN.{length, getD, set}
+use lib.ListN.{length, set}
 use borrow.Author.Count.{below-more}
-use Rattle.model.specs.Message.{Two, Pair, Seal}
-use Rattle.model.specs.Case.{Cell, TWO, Table, Run, PR, Part, in-arg, in-right}
+use Rattle.model.specs.Case.{Cell, PR, SE, Table, Run, Part, in-left, in-right}
 use Rattle.model.proofs.Finite.{eq?}
 use Rattle.theory.specs.Cells.{Makes, Opening, classAt, On}
 use Rattle.theory.specs.Level.{Mark, seen, built}
+use Rattle.theory.proofs.Parts.{makes-parts}
 use Rattle.theory.proofs.Sweep.{mark-same, mark-rep}
-use Rattle.knowledge.specs.Knowledge.{ClassRow, Marked}
-use Rattle.knowledge.specs.Sweeps.{leftPart, rightPart, leftClass, rightClass, Composed, Gives, Newly, Shows, SeenOnly, BuiltOnly, Rising, Falling}
+use Rattle.knowledge.specs.Knowledge.{ClassRow, MarkRow}
+use Rattle.knowledge.specs.Sweeps.{leftPart, rightPart, leftClass, rightClass, Given, MadeBy, Gives, Adds, Newly, Shows, SeenOnly, BuiltOnly, Rising, Falling}
 use Rattle.knowledge.proofs.ByKind.{makes-ends}
 use Rattle.theory.proofs.MarkRows.{set-cases}
 use Rattle.knowledge.proofs.Grow.{grown-none, grown-mark, grown-marks}
 
 -- ---- what one cell adds
 
-module _ (T : Table) (rep : ℕ → ℕ) (ev : Run) (p : ℕ) where
-  -- What is seen and has a built key, or argument, has its parts seen.
-  pub gives-parts : {c i j : ℕ} (k : Cell) → T (rep c) ≡ k → Makes k i j → Mark T rep ev p seen c → Mark T rep ev p built j → Mark T rep ev p seen i × Mark T rep ev p seen j
-  gives-parts k e (Makes.ones {a = a} s) h g =
-      let m : Mark T rep ev p seen a = Mark.parts (subst (λ x. Makes x a a) (sym e) (Makes.ones s)) (subst (λ x. Part x a) (sym e) in-arg) h g g in
-      (m, m)
-  gives-parts {c} k e (Makes.twos {h = t} {l = l} {r = r}) h g = go t e
-    where
-      go : (t : Two) → T (rep c) ≡ TWO t l r → Mark T rep ev p seen l × Mark T rep ev p seen r
-      go Pair e = (Mark.opens (Opening.lefts e) h (Mark.had h), Mark.opens (Opening.rights e) h (Mark.had h))
-      go Seal e =
-          let m : Mark T rep ev p seen l = Mark.opens (Opening.bodies e) h g in
-          (m, Mark.parts (subst (λ x. Makes x l r) (sym e) Makes.twos) (subst (λ x. Part x r) (sym e) in-right) h (Mark.had m) g)
+-- What gives its parts has some.
+pub gives-ends : {k : Cell} {rep builts : List ℕ} (c : ℕ) → Gives k rep builts → Part k (leftPart k c) × Part k (rightPart k c)
+gives-ends c (Gives.pairs e) = rw e (in-left, in-right)
+gives-ends c (Gives.keys e o) = rw e (in-left, in-right)
+gives-ends {k} c (Gives.parts (MadeBy.makes m x y)) =
+    let (l, r) = makes-ends c m in
+    let (a, b) = makes-parts m in
+    (subst (Part k) (sym l) a, subst (Part k) (sym r) b)
 
 module _ (T : Table) {n : ℕ} {rep : List ℕ} (w : ClassRow n rep) (ev : Run) (p : ℕ) (seens builts : List ℕ) (ss : SeenOnly T rep ev p seens) (bs : BuiltOnly T rep ev p builts) (c : ℕ) where
   part-built : {d : ℕ} → On builts (classAt rep d) → Mark T (classAt rep) ev p built d
   part-built {d} o = mark-same T (classAt rep) ev p (w .idem) (w .idem d) (bs (classAt rep d) o)
 
+  given-mark : {k : Cell} → T (classAt rep c) ≡ k → Given k → Mark T (classAt rep) ev p built c
+  given-mark e Given.free = Mark.free e
+  given-mark e Given.zero = Mark.zero e
+
   pub newly-mark : Newly T rep seens builts c → Mark T (classAt rep) ev p built c
-  newly-mark x = go (x .composed)
+  newly-mark x = go (x .adds)
     where
-      go : Composed (T c) (getD seens c 0) (getD builts (leftClass T rep c) 0) (getD builts (rightClass T rep c) 0) → Mark T (classAt rep) ev p built c
-      go (Composed.had e) = Mark.had (ss c e)
-      go (Composed.free e) = Mark.free (ap T (x .stands) ∙ e)
-      go (Composed.zero e) = Mark.zero (ap T (x .stands) ∙ e)
-      go (Composed.makes {i = i} {j = j} m a b) =
-          let (l, r) = makes-ends c m in
-          Mark.makes (subst (λ z. Makes (T z) i j) (sym (x .stands)) m) (subst (λ d. Mark T (classAt rep) ev p built d) l (part-built a))
-          (subst (λ d. Mark T (classAt rep) ev p built d) r (part-built b))
+      go : Adds T rep seens builts c → Mark T (classAt rep) ev p built c
+      go (Adds.had o) = Mark.had (ss c o)
+      go (Adds.given g) = given-mark (ap T (x .stands)) g
+      go (Adds.made (MadeBy.makes {a = a} {b = b} m i j)) = Mark.makes (subst (λ z. Makes (T z) a b) (sym (x .stands)) m) (part-built i) (part-built j)
+
+  module _ (s : classAt rep c ≡ c) (h : Mark T (classAt rep) ev p seen c) where
+    -- The part of a seen pair, or of a seal with its key,
+    pair-seen : {l r d : ℕ} → T c ≡ PR l r → Part (PR l r) d → Mark T (classAt rep) ev p seen d
+    pair-seen e in-left = Mark.opens (Opening.lefts (ap T s ∙ e)) h (Mark.had h)
+    pair-seen e in-right = Mark.opens (Opening.rights (ap T s ∙ e)) h (Mark.had h)
+
+    seal-seen : {b k d : ℕ} → T c ≡ SE b k → Mark T (classAt rep) ev p built k → Part (SE b k) d → Mark T (classAt rep) ev p seen d
+    seal-seen e g in-left = Mark.opens (Opening.bodies (ap T s ∙ e)) h g
+    seal-seen {b} {k} e g in-right =
+        let i : T (classAt rep c) ≡ SE b k = ap T s ∙ e in
+        Mark.parts (subst (λ z. Makes z b k) (sym i) Makes.twos) (subst (λ z. Part z k) (sym i) in-right) h (Mark.had (Mark.opens (Opening.bodies i) h g)) g
+
+    -- and every part of a seen cell that gives them, is seen.
+    part-seen : {d : ℕ} → Gives (T c) rep builts → Part (T c) d → Mark T (classAt rep) ev p seen d
+    part-seen {d} (Gives.pairs e) q = pair-seen e (subst (λ z. Part z d) e q)
+    part-seen {d} (Gives.keys e o) q = seal-seen e (part-built o) (subst (λ z. Part z d) e q)
+    part-seen {d} (Gives.parts (MadeBy.makes {a = a} {b = b} m i j)) q =
+        Mark.parts (subst (λ z. Makes (T z) a b) (sym s) m) (subst (λ z. Part (T z) d) (sym s) q) h (part-built i) (part-built j)
 
   pub shows-marks : Shows T rep seens builts c → Mark T (classAt rep) ev p seen (leftClass T rep c) × Mark T (classAt rep) ev p seen (rightClass T rep c)
-  shows-marks x = go (x .gives)
-    where
-      h : Mark T (classAt rep) ev p seen c
-      h = ss c (x .whole)
-
-      up : {d : ℕ} → Mark T (classAt rep) ev p seen d → Mark T (classAt rep) ev p seen (classAt rep d)
-      up m = mark-rep T (classAt rep) ev p (w .idem) m
-
-      go : Gives (T c) (getD builts (rightClass T rep c) 0) → Mark T (classAt rep) ev p seen (leftClass T rep c) × Mark T (classAt rep) ev p seen (rightClass T rep c)
-      go (Gives.pairs {l = l} {r = r} e) =
-          let q : T (classAt rep c) ≡ PR l r = ap T (x .stands) ∙ e in (
-            subst (λ d. Mark T (classAt rep) ev p seen (classAt rep d)) (sym (ap (λ k. leftPart k c) e)) (up (Mark.opens (Opening.lefts q) h (Mark.had h))),
-            subst (λ d. Mark T (classAt rep) ev p seen (classAt rep d)) (sym (ap (λ k. rightPart k c) e)) (up (Mark.opens (Opening.rights q) h (Mark.had h))),
-          )
-      go (Gives.keys {i = i} {j = j} m b) =
-          let (l, r) = makes-ends c m in
-          let (u, v) = gives-parts T (classAt rep) ev p (T c) (ap T (x .stands)) m h (subst (λ d. Mark T (classAt rep) ev p built d) r (part-built b)) in
-          (subst (λ d. Mark T (classAt rep) ev p seen (classAt rep d)) (sym l) (up u), subst (λ d. Mark T (classAt rep) ev p seen (classAt rep d)) (sym r) (up v))
+  shows-marks x =
+      let (l, r) = gives-ends c (x .gives) in
+      let h = ss c (x .whole) in
+      (mark-rep T (classAt rep) ev p (w .idem) (part-seen (x .stands) h (x .gives) l), mark-rep T (classAt rep) ev p (w .idem) (part-seen (x .stands) h (x .gives) r))
 
 -- ---- the sweep upwards
 
 module _ (T : Table) {n : ℕ} {rep : List ℕ} (w : ClassRow n rep) (seens m : List ℕ) where
-  pub rising-none : length m ≡ 129 → Marked rep m → Rising T rep seens m m false 0
+  pub rising-none : length m ≡ 129 → MarkRow rep m → Rising T rep seens m m false 0
   rising-none l k = record { grown = grown-none l k; sound = λ ev p s b. b; still = λ e c h. absurd (omega arith) }
 
   module _ {r : List ℕ} {ch : Bool} (c : ℕ) (x : Rising T rep seens m r ch c) where
@@ -95,7 +95,7 @@ module _ (T : Table) {n : ℕ} {rep : List ℕ} (w : ClassRow n rep) (seens m : 
 -- ---- the sweep downwards
 
 module _ (T : Table) {n : ℕ} {rep : List ℕ} (w : ClassRow n rep) (builts m : List ℕ) where
-  pub falling-none : length m ≡ 129 → Marked rep m → Falling T rep builts m m false n n
+  pub falling-none : length m ≡ 129 → MarkRow rep m → Falling T rep builts m m false n n
   falling-none l k = record { grown = grown-none l k; sound = λ ev p s b. s; still = λ e c h g. absurd (omega arith) }
 
   module _ {r : List ℕ} {ch : Bool} (c u : ℕ) (next : u ≡ c + 1) (x : Falling T rep builts m r ch n u) where

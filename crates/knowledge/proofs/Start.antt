@@ -1,4 +1,4 @@
--- Marks to start from, event by event: none before the first, one more at each LN; and marks that were found may be started from again.
+-- Marks to start from, event by event: none before the first, one more at each LN.
 use mathlib.Core.Path.{_≡_, sym, subst}
 use mathlib.Core.Logic.{_⊎_, inl, inr}
 use mathlib.Core.Option.{some}
@@ -10,8 +10,7 @@ use Rattle.model.proofs.Finite.{eq?}
 use Rattle.theory.specs.Cells.{classAt, On}
 use Rattle.theory.specs.Level.{Mark, seen}
 use Rattle.theory.proofs.Sweep.{mark-later, mark-rep}
-use Rattle.knowledge.specs.declared.Marks.{Marks}
-use Rattle.knowledge.specs.Knowledge.{ClassRow, Learns, Starts, Opened}
+use Rattle.knowledge.specs.Knowledge.{ClassRow, Learns, Starts}
 use Rattle.knowledge.proofs.Grow.{noMarks, none-on}
 
 module _ (T : Table) {n : ℕ} {rep : List ℕ} (w : ClassRow n rep) (ev : Run) where
@@ -43,10 +42,3 @@ module _ (T : Table) {n : ℕ} {rep : List ℕ} (w : ClassRow n rep) (ev : Run) 
       where
         same : (d : ℕ) → ev p ≡ some (LN d) → c ≡ d
         same d i = cc
-
-    -- The marks of what is seen may be started from.
-    pub starts-opened : {r : Marks} → Opened T rep s r → Starts T rep ev p (r .seen)
-    starts-opened {r} o = record {
-      low = λ c h. o .seen ev p st c .1 (Mark.learnt h);
-      high = λ c x. o .seen ev p st c .0 (subst (On (r .seen)) (sym (o .seen-marked .stand c x)) x);
-    }

@@ -1,7 +1,11 @@
 // What he can build from all that is learnt, for a table without variables: the classes of equal messages, and which of them are built.
+use cells::Event;
+use cells::Run;
+use cells::Table;
+use cells::event_at;
 ghost use Prim.Native.Nat.{_≤_};
-ghost use Rattle.model.specs.Stored.{tableAt, runAt};
-ghost use Rattle.theory.specs.Cells.{Rows, EventRows};
+ghost use Rattle.model.specs.Stored.{tableIn, runIn};
+ghost use Rattle.theory.specs.Cells.{TableWords, RunWords};
 ghost use Rattle.knowledge.specs.Knowledge.{ClassRow};
 ghost use Rattle.knowledge.specs.Heard.{LearntAll, HeardOpened};
 
@@ -11,48 +15,45 @@ pub struct Knowledge {
     pub built: [u8; 129],
 }
 
-// Marks the classes of all learnt cells as seen; an MK adds nothing.
-fn learn_all<'a>(
+// Marks the classes of the cells learnt before position p as seen; an MK adds nothing.
+pub fn learnt_before<'a>(
     n: usize,
     rep: &'a [u8; 129],
-    asks: &'a [u8; 128],
-    aims: &'a [u8; 128],
+    run: &'a Run,
     count: usize,
+    p: usize,
 ) -> [u8; 129]
     requires { ⌜ n ≤ 128 ⌝ }
     requires { ⌜ ClassRow n (now rep) ⌝ }
-    requires { ⌜ EventRows n (now aims) count ⌝ }
-    ensures { λ r. ⌜ LearntAll (now (rep .entry)) (runAt count (now (asks .entry)) (now (aims .entry))) count r ⌝ }
+    requires { ⌜ RunWords n (now run) count ⌝ }
+    requires { ⌜ p ≤ count ⌝ }
+    ensures { λ r. ⌜ LearntAll (now (rep .entry)) (runIn count (now (run .entry))) p r ⌝ }
 {
     let mut seen = [0; 129];
-    let mut p: usize = 0;
-    while p < count {
-        if asks[p] != 0 {
-            let more = super::learn(n, rep, seen, super::cell(aims[p]));
-            seen = more;
+    let mut q: usize = 0;
+    while q < p {
+        let event = event_at(run, q);
+        match event {
+            Event::Make(_) => {}
+            Event::Learn(x) => {
+                let more = super::learn(n, rep, seen, super::cell(x));
+                seen = more;
+            }
         }
-        p += 1;
+        q += 1;
     }
     seen
 }
 
 // The classes of equal messages, and what he can build from all that is learnt.
-pub fn open_heard<'a>(
-    kind: &'a [u8; 128],
-    first: &'a [u8; 128],
-    second: &'a [u8; 128],
-    n: usize,
-    asks: &'a [u8; 128],
-    aims: &'a [u8; 128],
-    count: usize,
-) -> Knowledge
-    requires { ⌜ Rows n (now kind) (now first) (now second) ⌝ }
-    requires { ⌜ EventRows n (now aims) count ⌝ }
-    ensures { λ r. ⌜ HeardOpened n (tableAt (now (kind .entry)) (now (first .entry)) (now (second .entry))) (runAt count (now (asks .entry)) (now (aims .entry))) r ⌝ }
+pub fn open_heard<'a>(table: &'a Table, n: usize, run: &'a Run, count: usize) -> Knowledge
+    requires { ⌜ TableWords n (now table) ⌝ }
+    requires { ⌜ RunWords n (now run) count ⌝ }
+    ensures { λ r. ⌜ HeardOpened n (tableIn (now (table .entry))) (runIn count (now (run .entry))) r ⌝ }
 {
-    let rep = classes::start(kind, first, second, n);
-    let learnt = learn_all(n, &rep, asks, aims, count);
-    let marks = super::open_known(kind, first, second, n, &rep, learnt);
+    let rep = classes::start(table, n);
+    let learnt = learnt_before(n, &rep, run, count, count);
+    let marks = super::open_known(table, n, &rep, learnt);
     let built = marks.built;
     Knowledge {
         rep: rep,

@@ -1,13 +1,24 @@
 // What he sees and can build, by classes of cells: two sweeps over the cells, repeated until nothing changes.
 pub mod heard;
 
+use cells::Cell;
+use cells::Opening;
+use cells::Parts;
+use cells::Table;
+use cells::cell_within;
+use cells::made_of;
+use cells::opens;
+use cells::parts_of;
+use classes::class_of;
 ghost use mathlib.Core.Path.{_≡_};
-ghost use Prim.Native.Nat.{ℕ, _≤_, _<_, _+_, _*_};
-ghost use Rattle.model.specs.Stored.{cellAt, tableAt};
-ghost use Rattle.theory.specs.Cells.{Rows, classAt};
+ghost use Prim.Native.Nat.{ℕ, _≤_, _<_};
+ghost use Rattle.model.specs.Case.{Part};
+ghost use Rattle.model.specs.Stored.{tableIn};
+ghost use Rattle.theory.specs.Cells.{TableWords, classAt, On};
 ghost use Rattle.theory.specs.Decides.{Decides};
-ghost use Rattle.knowledge.specs.Knowledge.{ClassRow, Marked, Learns, Opened};
-ghost use Rattle.knowledge.specs.Sweeps.{leftPart, rightPart, Composed, Gives, Newly, Finds, Rising, Falling, Turned, OwnMarks};
+ghost use Rattle.cells.specs.Cells.{asCell};
+ghost use Rattle.knowledge.specs.Knowledge.{ClassRow, MarkRow, Learns, Opened};
+ghost use Rattle.knowledge.specs.Sweeps.{leftPart, rightPart, Given, MadeBy, Gives, Newly, Finds, Rising, Falling, Turned, OwnMarks};
 
 // The marks, 0 or 1, of the cells that are seen and of those that can be built.
 pub struct Marks {
@@ -16,7 +27,7 @@ pub struct Marks {
 }
 
 // The classes of a seen cell's parts, where they are newly seen.
-enum Found {
+enum Shown {
     Parts(usize, usize),
     Nothing,
 }
@@ -46,69 +57,17 @@ pub struct Turn {
     pub changed: bool,
 }
 
-// The first part of the cell c of this kind; c where it has none.
-fn left_part(kind: u8, first: u8, second: u8, c: usize) -> usize
-    ensures { λ r. ⌜ r ≡ leftPart (cellAt kind first second) c ⌝ }
+// Is the cell k built without any part: his own name, or a free cell, which he chooses?
+fn is_given(k: Cell) -> bool
+    ensures { λ r. ⌜ Decides r (Given (asCell k)) ⌝ }
 {
-    if kind < 2 {
-        return c;
+    match k {
+        Cell::Atom(n) => n == 0,
+        Cell::Variable => true,
+        Cell::Pair(_, _) => false,
+        Cell::Seal(_, _) => false,
+        Cell::Apply(_, _) => false,
     }
-    if kind < 4 {
-        return first as usize;
-    }
-    second as usize
-}
-
-// The second part of the cell c of this kind; c where it has none.
-fn right_part(kind: u8, first: u8, second: u8, c: usize) -> usize
-    ensures { λ r. ⌜ r ≡ rightPart (cellAt kind first second) c ⌝ }
-{
-    if kind < 2 {
-        return c;
-    }
-    second as usize
-}
-
-// Is the name of these two bytes his own?
-fn own_name(first: u8, second: u8) -> bool
-    ensures { λ r. ⌜ Decides r (first * 256 + second ≡ 0) ⌝ }
-{
-    if first == 0 {
-        return second == 0;
-    }
-    false
-}
-
-// Is a cell built, by its mark as seen and its parts' marks as built?
-fn composed(kind: u8, first: u8, second: u8, seen: u8, left: u8, right: u8) -> bool
-    ensures { λ r. ⌜ Decides r (Composed (cellAt kind first second) seen left right) ⌝ }
-{
-    if seen == 1 {
-        return true;
-    }
-    if kind == 0 {
-        return own_name(first, second);
-    }
-    if kind == 1 {
-        return true;
-    }
-    if left == 1 {
-        return right == 1;
-    }
-    false
-}
-
-// Are the parts of a seen cell seen, by the second part's mark as built?
-fn gives(kind: u8, right: u8) -> bool
-    ensures { λ r. ⌜ ((first second : ℕ) → Decides r (Gives (cellAt kind first second) right)) ⌝ }
-{
-    if kind < 2 {
-        return false;
-    }
-    if kind == 2 {
-        return true;
-    }
-    right == 1
 }
 
 // A byte as a cell's number.
@@ -118,44 +77,87 @@ pub fn cell(x: u8) -> usize
     x as usize
 }
 
-// The cell that stands for the class of c.
-pub fn class_of<'a>(rep: &'a [u8; 129], c: usize) -> usize
-    requires { ⌜ c ≤ 128 ⌝ }
-    ensures { λ r. ⌜ r ≡ classAt (now (rep .entry)) c ⌝ }
+// Is the class of x marked?
+pub fn has<'a>(n: usize, rep: &'a [u8; 129], marks: &'a [u8; 129], x: u8) -> bool
+    requires { ⌜ ClassRow n (now rep) ⌝ }
+    requires { ⌜ x ≤ 128 ⌝ }
+    ensures { λ r. ⌜ Decides r (On (now (marks .entry)) (classAt (now (rep .entry)) x)) ⌝ }
 {
-    cell(rep[c])
+    let t = class_of(rep, cell(x));
+    marks[t] == 1
 }
 
-// The cells that stand for the classes of the parts of c.
-pub fn part_classes<'a>(kind: u8, first: u8, second: u8, rep: &'a [u8; 129], c: usize) -> Ends
-    requires { ⌜ leftPart (cellAt kind first second) c ≤ 128 ⌝ }
-    requires { ⌜ rightPart (cellAt kind first second) c ≤ 128 ⌝ }
-    ensures { λ r. ⌜ r .left ≡ classAt (now (rep .entry)) (leftPart (cellAt kind first second) c) ⌝ }
-    ensures { λ r. ⌜ r .right ≡ classAt (now (rep .entry)) (rightPart (cellAt kind first second) c) ⌝ }
+// The cells that stand for the classes of the parts of c, a cell k.
+pub fn part_classes<'a>(k: Cell, rep: &'a [u8; 129], c: usize) -> Ends
+    requires { ⌜ leftPart (asCell k) c ≤ 128 ⌝ }
+    requires { ⌜ rightPart (asCell k) c ≤ 128 ⌝ }
+    ensures { λ r. ⌜ r .left ≡ classAt (now (rep .entry)) (leftPart (asCell k) c) ⌝ }
+    ensures { λ r. ⌜ r .right ≡ classAt (now (rep .entry)) (rightPart (asCell k) c) ⌝ }
 {
-    let l = left_part(kind, first, second, c);
-    let r = right_part(kind, first, second, c);
-    Ends {
-        left: class_of(rep, l),
-        right: class_of(rep, r),
+    let parts = parts_of(k);
+    match parts {
+        Parts::None => same_end(class_of(rep, c)),
+        Parts::One(a) => same_end(class_of(rep, cell(a))),
+        Parts::Two(l, r) => Ends {
+            left: class_of(rep, cell(l)),
+            right: class_of(rep, cell(r)),
+        },
+    }
+}
+
+// Both ends in one cell.
+fn same_end(c: usize) -> Ends
+    ensures { λ r. ⌜ (r .left ≡ c) × (r .right ≡ c) ⌝ }
+{
+    Ends { left: c, right: c }
+}
+
+// Is the cell k composed of what is built?
+fn is_made<'a>(n: usize, k: Cell, rep: &'a [u8; 129], built: &'a [u8; 129]) -> bool
+    requires { ⌜ ClassRow n (now rep) ⌝ }
+    requires { ⌜ ((d : ℕ) → Part (asCell k) d → d ≤ 128) ⌝ }
+    ensures { λ r. ⌜ Decides r (MadeBy (asCell k) (now (rep .entry)) (now (built .entry))) ⌝ }
+{
+    let parts = made_of(k);
+    match parts {
+        Parts::None => false,
+        Parts::One(a) => has(n, rep, built, a),
+        Parts::Two(l, r) => {
+            if !has(n, rep, built, l) {
+                return false;
+            }
+            has(n, rep, built, r)
+        }
+    }
+}
+
+// Does the seen cell k give its parts: does it open, or is it composed of what is built?
+fn gives<'a>(n: usize, k: Cell, rep: &'a [u8; 129], built: &'a [u8; 129]) -> bool
+    requires { ⌜ ClassRow n (now rep) ⌝ }
+    requires { ⌜ ((d : ℕ) → Part (asCell k) d → d ≤ 128) ⌝ }
+    ensures { λ r. ⌜ Decides r (Gives (asCell k) (now (rep .entry)) (now (built .entry))) ⌝ }
+{
+    let o = opens(k);
+    match o {
+        Opening::Open(_, _) => true,
+        Opening::Locked(_, key) => has(n, rep, built, key),
+        Opening::Shut => is_made(n, k, rep, built),
     }
 }
 
 // Is c to be marked as built?
 fn newly<'a>(
-    kind: &'a [u8; 128],
-    first: &'a [u8; 128],
-    second: &'a [u8; 128],
+    table: &'a Table,
     n: usize,
     rep: &'a [u8; 129],
     seen: &'a [u8; 129],
     built: &'a [u8; 129],
     c: usize,
 ) -> bool
-    requires { ⌜ Rows n (now kind) (now first) (now second) ⌝ }
+    requires { ⌜ TableWords n (now table) ⌝ }
     requires { ⌜ ClassRow n (now rep) ⌝ }
     requires { ⌜ c < n ⌝ }
-    ensures { λ r. ⌜ Decides r (Newly (tableAt (now (kind .entry)) (now (first .entry)) (now (second .entry))) (now (rep .entry)) (now (seen .entry)) (now (built .entry)) c) ⌝ }
+    ensures { λ r. ⌜ Decides r (Newly (tableIn (now (table .entry))) (now (rep .entry)) (now (seen .entry)) (now (built .entry)) c) ⌝ }
 {
     if class_of(rep, c) != c {
         return false;
@@ -163,74 +165,69 @@ fn newly<'a>(
     if built[c] == 1 {
         return false;
     }
-    let k = kind[c];
-    let f = first[c];
-    let s = second[c];
-    let e = part_classes(k, f, s, rep, c);
-    let a = e.left;
-    let b = e.right;
-    composed(k, f, s, seen[c], built[a], built[b])
+    if seen[c] == 1 {
+        return true;
+    }
+    let k = cell_within(table, c);
+    if is_given(k) {
+        return true;
+    }
+    is_made(n, k, rep, built)
 }
 
 // The classes of the parts of c, where they are newly seen.
 fn shows<'a>(
-    kind: &'a [u8; 128],
-    first: &'a [u8; 128],
-    second: &'a [u8; 128],
+    table: &'a Table,
     n: usize,
     rep: &'a [u8; 129],
     seen: &'a [u8; 129],
     built: &'a [u8; 129],
     c: usize,
-) -> Found
-    requires { ⌜ Rows n (now kind) (now first) (now second) ⌝ }
+) -> Shown
+    requires { ⌜ TableWords n (now table) ⌝ }
     requires { ⌜ ClassRow n (now rep) ⌝ }
     requires { ⌜ c < n ⌝ }
-    ensures { λ r. ⌜ Finds (tableAt (now (kind .entry)) (now (first .entry)) (now (second .entry))) (now (rep .entry)) (now (seen .entry)) (now (built .entry)) c r ⌝ }
+    ensures { λ r. ⌜ Finds (tableIn (now (table .entry))) (now (rep .entry)) (now (seen .entry)) (now (built .entry)) c r ⌝ }
 {
     if class_of(rep, c) != c {
-        return Found::Nothing;
+        return Shown::Nothing;
     }
     if seen[c] != 1 {
-        return Found::Nothing;
+        return Shown::Nothing;
     }
-    let k = kind[c];
-    let f = first[c];
-    let s = second[c];
-    let e = part_classes(k, f, s, rep, c);
+    let k = cell_within(table, c);
+    if !gives(n, k, rep, built) {
+        return Shown::Nothing;
+    }
+    let e = part_classes(k, rep, c);
     let a = e.left;
     let b = e.right;
-    if !gives(k, built[b]) {
-        return Found::Nothing;
-    }
     if seen[a] == 1 {
         if seen[b] == 1 {
-            return Found::Nothing;
+            return Shown::Nothing;
         }
     }
-    Found::Parts(a, b)
+    Shown::Parts(a, b)
 }
 
 // Marks upwards what is built.
 fn rise<'a>(
-    kind: &'a [u8; 128],
-    first: &'a [u8; 128],
-    second: &'a [u8; 128],
+    table: &'a Table,
     n: usize,
     rep: &'a [u8; 129],
     seen: [u8; 129],
     start: [u8; 129],
 ) -> Risen
-    requires { ⌜ Rows n (now kind) (now first) (now second) ⌝ }
+    requires { ⌜ TableWords n (now table) ⌝ }
     requires { ⌜ ClassRow n (now rep) ⌝ }
-    requires { ⌜ Marked (now rep) start ⌝ }
-    ensures { λ r. ⌜ Rising (tableAt (now (kind .entry)) (now (first .entry)) (now (second .entry))) (now (rep .entry)) seen start (r .built) (r .changed) n ⌝ }
+    requires { ⌜ MarkRow (now rep) start ⌝ }
+    ensures { λ r. ⌜ Rising (tableIn (now (table .entry))) (now (rep .entry)) seen start (r .built) (r .changed) n ⌝ }
 {
     let mut built = start;
     let mut changed = false;
     let mut c = 0;
     while c < n {
-        if newly(kind, first, second, n, rep, &seen, &built, c) {
+        if newly(table, n, rep, &seen, &built, c) {
             built[c] = 1;
             changed = true;
         }
@@ -244,26 +241,24 @@ fn rise<'a>(
 
 // Marks downwards what is seen.
 fn fall<'a>(
-    kind: &'a [u8; 128],
-    first: &'a [u8; 128],
-    second: &'a [u8; 128],
+    table: &'a Table,
     n: usize,
     rep: &'a [u8; 129],
     start: [u8; 129],
     built: [u8; 129],
 ) -> Fallen
-    requires { ⌜ Rows n (now kind) (now first) (now second) ⌝ }
+    requires { ⌜ TableWords n (now table) ⌝ }
     requires { ⌜ ClassRow n (now rep) ⌝ }
-    requires { ⌜ Marked (now rep) start ⌝ }
-    ensures { λ r. ⌜ Falling (tableAt (now (kind .entry)) (now (first .entry)) (now (second .entry))) (now (rep .entry)) built start (r .seen) (r .changed) n 0 ⌝ }
+    requires { ⌜ MarkRow (now rep) start ⌝ }
+    ensures { λ r. ⌜ Falling (tableIn (now (table .entry))) (now (rep .entry)) built start (r .seen) (r .changed) n 0 ⌝ }
 {
     let mut seen = start;
     let mut changed = false;
     let mut c = n;
     while 0 < c {
         c -= 1;
-        let f = shows(kind, first, second, n, rep, &seen, &built, c);
-        if let Found::Parts(a, b) = f {
+        let f = shows(table, n, rep, &seen, &built, c);
+        if let Shown::Parts(a, b) = f {
             seen[a] = 1;
             seen[b] = 1;
             changed = true;
@@ -277,23 +272,21 @@ fn fall<'a>(
 
 // One sweep upwards and one downwards.
 pub fn sweep<'a>(
-    kind: &'a [u8; 128],
-    first: &'a [u8; 128],
-    second: &'a [u8; 128],
+    table: &'a Table,
     n: usize,
     rep: &'a [u8; 129],
     seen: [u8; 129],
     built: [u8; 129],
 ) -> Turn
-    requires { ⌜ Rows n (now kind) (now first) (now second) ⌝ }
+    requires { ⌜ TableWords n (now table) ⌝ }
     requires { ⌜ ClassRow n (now rep) ⌝ }
-    requires { ⌜ Marked (now rep) seen ⌝ }
-    requires { ⌜ Marked (now rep) built ⌝ }
-    ensures { λ r. ⌜ Turned (tableAt (now (kind .entry)) (now (first .entry)) (now (second .entry))) n (now (rep .entry)) seen built (r .seen) (r .built) (r .changed) ⌝ }
+    requires { ⌜ MarkRow (now rep) seen ⌝ }
+    requires { ⌜ MarkRow (now rep) built ⌝ }
+    ensures { λ r. ⌜ Turned (tableIn (now (table .entry))) n (now (rep .entry)) seen built (r .seen) (r .built) (r .changed) ⌝ }
 {
-    let up = rise(kind, first, second, n, rep, seen, built);
+    let up = rise(table, n, rep, seen, built);
     let b = up.built;
-    let down = fall(kind, first, second, n, rep, seen, b);
+    let down = fall(table, n, rep, seen, b);
     let s = down.seen;
     if up.changed {
         return Turn {
@@ -325,7 +318,7 @@ pub fn own_marks<'a>(n: usize, rep: &'a [u8; 129]) -> [u8; 129]
 // Marks the class of a learnt cell as seen.
 pub fn learn<'a>(n: usize, rep: &'a [u8; 129], seen: [u8; 129], c: usize) -> [u8; 129]
     requires { ⌜ ClassRow n (now rep) ⌝ }
-    requires { ⌜ Marked (now rep) seen ⌝ }
+    requires { ⌜ MarkRow (now rep) seen ⌝ }
     requires { ⌜ c ≤ 128 ⌝ }
     ensures { λ r. ⌜ Learns (now (rep .entry)) seen c r ⌝ }
 {
@@ -336,23 +329,16 @@ pub fn learn<'a>(n: usize, rep: &'a [u8; 129], seen: [u8; 129], c: usize) -> [u8
 }
 
 // What he sees and can build, from marks of seen cells.
-pub fn open_known<'a>(
-    kind: &'a [u8; 128],
-    first: &'a [u8; 128],
-    second: &'a [u8; 128],
-    n: usize,
-    rep: &'a [u8; 129],
-    seen: [u8; 129],
-) -> Marks
-    requires { ⌜ Rows n (now kind) (now first) (now second) ⌝ }
+pub fn open_known<'a>(table: &'a Table, n: usize, rep: &'a [u8; 129], seen: [u8; 129]) -> Marks
+    requires { ⌜ TableWords n (now table) ⌝ }
     requires { ⌜ ClassRow n (now rep) ⌝ }
-    requires { ⌜ Marked (now rep) seen ⌝ }
-    ensures { λ r. ⌜ Opened (tableAt (now (kind .entry)) (now (first .entry)) (now (second .entry))) (now (rep .entry)) seen r ⌝ }
+    requires { ⌜ MarkRow (now rep) seen ⌝ }
+    ensures { λ r. ⌜ Opened (tableIn (now (table .entry))) (now (rep .entry)) seen r ⌝ }
 {
     let mut s = seen;
     let mut b = own_marks(n, rep);
     loop {
-        let t = sweep(kind, first, second, n, rep, s, b);
+        let t = sweep(table, n, rep, s, b);
         s = t.seen;
         b = t.built;
         if !t.changed {

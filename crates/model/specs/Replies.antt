@@ -1,5 +1,5 @@
 -- What each reply says of an accepted file (document 01, "The five questions"), and how a reply lies in a buffer.
--- FormOf, RightOf, RightListed, NoneRight: run and list check; EquatedBy, NeverEqual: equating; MarkList: build marks; ReducedTo: reducing; laid, SameButList: the buffer.
+-- FormOf, RightOf, RightListed, NoneRight: run and list check; EquatedBy, NeverEqual: equating; MarkList: build marks; ReducedTo: reducing; laid, Untouched, FileRefused, SameButList: replies and buffers.
 use mathlib.Core.Path.{_≡_}
 use mathlib.Core.List.{List, _++_, map}
 use mathlib.Core.Option.{none}
@@ -9,7 +9,7 @@ use Rattle.model.specs.Message.{Message, atom, Built}
 use Rattle.model.specs.Case.{LN, File, tableOf, runOf, message, Heard}
 use Rattle.model.specs.Values.{RightValues, cellOf, Form, RightList, EquatingList}
 use Rattle.model.specs.Reduce.{Reduces}
-use Rattle.model.specs.Format.{readFile, accepted, firstVariable, fileBytes}
+use Rattle.model.specs.Format.{readFile, refused, accepted, firstVariable, fileBytes}
 
 -- The list has the form of a value list of the file.
 abbrev pub FormOf : File → List ℕ → Type 0
@@ -63,6 +63,14 @@ ReducedTo f bytes =
 -- A buffer with the reply at its front; no byte beyond it is touched.
 abbrev pub laid : List ℕ → List ℕ → List ℕ
 laid reply before = reply ++ drop (length reply) before
+
+-- The reply is `said`, and the buffer is untouched.
+abbrev pub Untouched : {A : Type 0} → A → A → List ℕ → List ℕ → Type 0
+Untouched said reply before after = (reply ≡ said) × (after ≡ before)
+
+-- A file at fault is refused with its number and place: so much the reply to it tells.
+abbrev pub FileRefused : List ℕ → (ℕ → ℕ → Type 0) → Type 0
+FileRefused file Tells = (number place : ℕ) → readFile file ≡ refused number place → Tells number place
 
 -- Two buffers after the reply to a file are equal; or each has at its front a list that answers, and the bytes beyond it are equal.
 pub data SameButList (Answers : File → List ℕ → Type 0) (file before after after′ : List ℕ) : Type 0 where

@@ -9,10 +9,10 @@ use lib.ListN.{length, take}
 use lib.Seq.{take-take}
 use Rattle.model.specs.Case.{File, Table, tableOf}
 use Rattle.model.specs.Format.{readFile, Reading, refused, accepted}
-use Rattle.model.specs.Stored.{tableAt}
+use Rattle.model.specs.Stored.{tableIn}
 use Rattle.model.specs.Replies.{RightListed, NoneRight, laid}
 use Rattle.model.proofs.Read.{clash}
-use Rattle.model.proofs.Accepted.{accepted-file}
+use Rattle.model.proofs.Accepted.{Bytes, accepted-file}
 use Rattle.model.proofs.Places.{refused-place}
 use Rattle.model.proofs.Prefix.{readFile-prefix}
 use Rattle.running.specs.declared.Solved.{Solved}
@@ -24,9 +24,9 @@ use Rattle.casefile.specs.Case.{caseOf}
 use Rattle.casefile.proofs.CaseFile.{CaseFile, case-count, case-table}
 use Rattle.printing.specs.Lines.{Lines, refusedLine, countsLine, yesLine, noLine, noLines, yesLines, valueLines}
 use Rattle.printing.specs.Promise.{Written, ReplyPromise, SameButValues, same, values}
-use Rattle.printing.specs.Put.{Put, kindLines}
+use Rattle.printing.specs.Put.{Put}
 use Rattle.printing.proofs.PutLaws.{put-laid}
-use Rattle.printing.proofs.LineLaws.{kind-lines, lines-laid}
+use Rattle.printing.proofs.LineLaws.{lines-laid}
 
 -- ---- what a run says that had room for a list
 
@@ -39,7 +39,7 @@ module _ (file before list : List ℕ) (room : length before ≡ 128) (reply : S
     where
       go : (x : Reading) → readFile file ≡ x → (readFile file ≡ refused n at) × (at ≤ 899)
       go (refused m q) e =
-          let z = p .unread m q e .0 in
+          let z = p .refused m q e .0 in
           let r : readFile file ≡ refused n at = e ∙ cc in
           (r, refused-place file n at r .2)
       go (accepted f) e = elim (p .replied f (answered f e)) [ inl z ↦ clash (cc) | inr z ↦ clash (cc) ]
@@ -48,14 +48,14 @@ module _ (file before list : List ℕ) (room : length before ≡ 128) (reply : S
   run-no i = go (readFile file) refl
     where
       go : (x : Reading) → readFile file ≡ x → (f : File) × (readFile file ≡ accepted f) × NoneRight f
-      go (refused m q) e = let z = p .unread m q e .0 in clash (cc)
+      go (refused m q) e = let z = p .refused m q e .0 in clash (cc)
       go (accepted f) e = (f, e, p .no f (answered f e) i .0)
 
   pub run-yes : (n : ℕ) → reply ≡ Yes n → (f : File) × (readFile file ≡ accepted f) × (l : List ℕ) × RightListed f l × (list ≡ laid l before)
   run-yes n i = go (readFile file) refl
     where
       go : (x : Reading) → readFile file ≡ x → (f : File) × (readFile file ≡ accepted f) × (l : List ℕ) × RightListed f l × (list ≡ laid l before)
-      go (refused m q) e = let z = p .unread m q e .0 in clash (cc)
+      go (refused m q) e = let z = p .refused m q e .0 in clash (cc)
       go (accepted f) e = elim (p .replied f (answered f e)) [ inl z ↦ clash (cc) | inr z ↦ (let (l, w, k) = p .yes f (answered f e) z in (f, e, l, w, k)) ]
 
 -- ---- what was read
@@ -69,17 +69,17 @@ module _ (file : List ℕ) (r : Case) (reply : r ≡ caseOf (readFile file)) (f 
     f = f;
     read = e;
     table = ap (λ (u : Case). u .table) stored-as;
-    events = ap (λ (u : Case). u .events) stored-as;
+    run = ap (λ (u : Case). u .run) stored-as;
     variable = ap (λ (u : Case). u .variable) stored-as;
   }
 
-  pub case-cells : r .table .cells ≡ length (f .cells)
+  pub case-cells : r .table .count ≡ length (f .cells)
   case-cells = case-count case-of
 
-  pub case-events : r .events .count ≡ length (f .events)
-  case-events = ap (λ (u : Case). u .events .count) stored-as
+  pub case-events : r .run .count ≡ length (f .events)
+  case-events = ap (λ (u : Case). u .run .count) stored-as
 
-  pub case-few : (r .table .cells ≤ 128) × (r .events .count ≤ 128)
+  pub case-few : (r .table .count ≤ 128) × (r .run .count ≤ 128)
   case-few =
       let a = accepted-file file f e in
       let i = case-cells in
@@ -88,26 +88,25 @@ module _ (file : List ℕ) (r : Case) (reply : r ≡ caseOf (readFile file)) (f 
       let k = a .fewEvents in
       (omega arith, omega arith)
 
-  counts-text : countsLine (r .table .cells) (r .events .count) ≡ countsLine (length (f .cells)) (length (f .events))
-  counts-text = ap (λ c. countsLine c (r .events .count)) case-cells ∙ ap (countsLine (length (f .cells))) case-events
+  counts-text : countsLine (r .table .count) (r .run .count) ≡ countsLine (length (f .cells)) (length (f .events))
+  counts-text = ap (λ c. countsLine c (r .run .count)) case-cells ∙ ap (countsLine (length (f .cells))) case-events
 
-  pub no-text : countsLine (r .table .cells) (r .events .count) ++ noLine ≡ noLines f
+  pub no-text : countsLine (r .table .count) (r .run .count) ++ noLine ≡ noLines f
   no-text = ap (λ l. l ++ noLine) counts-text
 
-  -- The lines of the stored table are those of the file's.
-  values-text : (l before list : List ℕ) → length l ≡ length (f .cells) → list ≡ laid l before → kindLines (r .table .kind) list (r .table .cells) ≡ valueLines (tableOf (f .cells)) l (length (f .cells))
-  values-text l before list size i =
-      let n = r .table .cells in
-      kind-lines (r .table .kind) (r .table .first) (r .table .second) list n ∙
-      (ap (λ (T : Table). valueLines T list n) (case-table case-of) ∙
+  -- The lines of the table that was read are those of the file's.
+  values-text : Bytes file → (l before list : List ℕ) → length l ≡ length (f .cells) → list ≡ laid l before → valueLines (tableIn (r .table .words)) list (r .table .count) ≡ valueLines (tableOf (f .cells)) l (length (f .cells))
+  values-text bytes l before list size i =
+      let n = r .table .count in
+      ap (λ (T : Table). valueLines T list n) (case-table case-of bytes) ∙
       (ap (λ (k : List ℕ). valueLines (tableOf (f .cells)) k n) i ∙
-      (lines-laid (tableOf (f .cells)) l before n (size ∙ sym case-cells) ∙ ap (valueLines (tableOf (f .cells)) l) case-cells)))
+      (lines-laid (tableOf (f .cells)) l before n (size ∙ sym case-cells) ∙ ap (valueLines (tableOf (f .cells)) l) case-cells))
 
-  pub yes-text : (l before list : List ℕ) → length l ≡ length (f .cells) → list ≡ laid l before →
-      countsLine (r .table .cells) (r .events .count) ++ (yesLine ++ kindLines (r .table .kind) list (r .table .cells)) ≡ yesLines f l
-  yes-text l before list size i =
-      ap (λ c. c ++ (yesLine ++ kindLines (r .table .kind) list (r .table .cells))) counts-text ∙
-      ap (λ v. countsLine (length (f .cells)) (length (f .events)) ++ (yesLine ++ v)) (values-text l before list size i)
+  pub yes-text : Bytes file → (l before list : List ℕ) → length l ≡ length (f .cells) → list ≡ laid l before →
+      countsLine (r .table .count) (r .run .count) ++ (yesLine ++ valueLines (tableIn (r .table .words)) list (r .table .count)) ≡ yesLines f l
+  yes-text bytes l before list size i =
+      ap (λ c. c ++ (yesLine ++ valueLines (tableIn (r .table .words)) list (r .table .count))) counts-text ∙
+      ap (λ v. countsLine (length (f .cells)) (length (f .events)) ++ (yesLine ++ v)) (values-text bytes l before list size i)
 
 -- ---- the promise
 

@@ -1,13 +1,13 @@
 -- The lines of the files E, D and J, byte by byte.
 use mathlib.Core.Path.{_≡_, refl, sym, _∙_, ap, subst}
-use mathlib.Core.List.{List, [], _∷_, _++_}
+use mathlib.Core.List.{List, [], _∷_}
 use Prim.Native.Nat.{ℕ}
-use lib.ListN.{length, getD}
-use Rattle.model.specs.Case.{File, tableOf}
-use Rattle.model.specs.Format.{Reading, readFile, refused, accepted}
+use lib.ListN.{getD}
+use Rattle.model.specs.Case.{File}
+use Rattle.model.specs.Format.{readFile, refused, accepted}
 use Rattle.model.specs.Replies.{RightListed, NoneRight}
 use Rattle.model.proofs.Read.{clash}
-use Rattle.model.proofs.Claims.{D, E, J, bytesOf, AlwaysListed}
+use Rattle.model.proofs.Claims.{D, E, J, bytesOf}
 use Rattle.model.proofs.Starred.{read-as, its, e-yes, e-entry, d-no}
 use Rattle.running.proofs.PromiseLaws.{no-and-yes}
 use Rattle.printing.specs.Lines.{digits, Lines, valueLines, yesLines, noLines}

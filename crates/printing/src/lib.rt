@@ -1,12 +1,14 @@
 // The reply to a run as the program prints it: lines of text in a lent buffer. 1,437 bytes are enough for each reply.
+use cells::Table;
+use cells::is_variable;
 use running::Solved;
-ghost use mathlib.Core.Path.{_≡_};
 ghost use mathlib.Core.List.{[], _∷_, _++_};
 ghost use Prim.Native.Nat.{_+_, _*_, _/_, _%_, _<_, _≤_};
 ghost use lib.ListN.{length};
-ghost use Rattle.printing.specs.Lines.{decimal, told, value, valueLine, refusedLine, countsLine, noLine, yesLine};
+ghost use Rattle.model.specs.Stored.{tableIn};
+ghost use Rattle.printing.specs.Lines.{decimal, told, value, valueLine, lineOf, valueLines, refusedLine, countsLine, noLine, yesLine};
 ghost use Rattle.printing.specs.Promise.{ReplyPromise};
-ghost use Rattle.printing.specs.Put.{Put, kindLine, kindLines};
+ghost use Rattle.printing.specs.Put.{Put};
 
 // Puts a text into the buffer, and replies where it ends.
 fn put_text(text: &[u8], at: usize, out: &mut [u8]) -> usize
@@ -104,12 +106,12 @@ fn put_value(v: usize, entry: u8, at: usize, out: &mut [u8]) -> usize
     put_entry(entry, named, out)
 }
 
-// Puts the line of a cell of this kind, if it is a variable.
-fn put_line(kind: u8, v: usize, entry: u8, at: usize, out: &mut [u8]) -> usize
+// Puts the line of the cell v, if it is a variable.
+fn put_line(table: &Table, v: usize, entry: u8, at: usize, out: &mut [u8]) -> usize
     requires { ⌜ (v < 1000) × (at + 11 ≤ length (now out)) ⌝ }
-    ensures { λ r. ⌜ Put (kindLine kind v entry) (now (out .entry)) at (now (out .exit)) r × (r ≤ at + 11) ⌝ }
+    ensures { λ r. ⌜ Put (lineOf (tableIn (now (table .entry)) v) v entry) (now (out .entry)) at (now (out .exit)) r × (r ≤ at + 11) ⌝ }
 {
-    if kind == 1 {
+    if is_variable(table, v) {
         return put_value(v, entry, at, out);
     }
     at
@@ -117,19 +119,19 @@ fn put_line(kind: u8, v: usize, entry: u8, at: usize, out: &mut [u8]) -> usize
 
 // Puts one line for each variable of n cells.
 fn put_values<'a>(
-    kind: &'a [u8; 128],
+    table: &'a Table,
     list: &'a [u8; 128],
     n: usize,
     at: usize,
     out: &mut [u8],
 ) -> usize
     requires { ⌜ (n ≤ 128) × (at + 11 * n ≤ length (now out)) ⌝ }
-    ensures { λ r. ⌜ Put (kindLines (now (kind .entry)) (now (list .entry)) n) (now (out .entry)) at (now (out .exit)) r ⌝ }
+    ensures { λ r. ⌜ Put (valueLines (tableIn (now (table .entry))) (now (list .entry)) n) (now (out .entry)) at (now (out .exit)) r ⌝ }
 {
     let mut next = at;
     let mut v: usize = 0;
     while v < n {
-        next = put_line(kind[v], v, list[v], next, out);
+        next = put_line(table, v, list[v], next, out);
         v += 1;
     }
     next
@@ -146,18 +148,18 @@ fn put_no(cells: usize, events: usize, out: &mut [u8]) -> usize
 
 // Puts the counts, "yes" and the values of a list.
 fn put_yes<'a>(
-    kind: &'a [u8; 128],
+    table: &'a Table,
     cells: usize,
     events: usize,
     list: &'a [u8; 128],
     out: &mut [u8],
 ) -> usize
     requires { ⌜ (cells ≤ 128) × (events < 1000) × (1437 ≤ length (now out)) ⌝ }
-    ensures { λ r. ⌜ Put (countsLine cells events ++ (yesLine ++ kindLines (now (kind .entry)) (now (list .entry)) cells)) (now (out .entry)) 0 (now (out .exit)) r ⌝ }
+    ensures { λ r. ⌜ Put (countsLine cells events ++ (yesLine ++ valueLines (tableIn (now (table .entry))) (now (list .entry)) cells)) (now (out .entry)) 0 (now (out .exit)) r ⌝ }
 {
     let counted = put_counts(cells, events, out);
     let told = put_text(b"run yes\n", counted, out);
-    put_values(kind, list, cells, told, out)
+    put_values(table, list, cells, told, out)
 }
 
 // Writes the reply to the run of a file, any bytes, to the front of the buffer, and replies how many bytes it has. A buffer of less than 1,437 bytes is left
@@ -172,10 +174,10 @@ pub fn write_reply(file: &[u8], out: &mut [u8]) -> usize
     let solved = running::run(file, &mut list);
     let case = casefile::read_case(file);
     let t = case.table;
-    let e = case.events;
+    let e = case.run;
     match solved {
         Solved::Refused(number, place) => put_refusal(number, place, out),
-        Solved::No => put_no(t.cells, e.count, out),
-        Solved::Yes(n) => put_yes(&t.kind, t.cells, e.count, &list, out),
+        Solved::No => put_no(t.count, e.count, out),
+        Solved::Yes(n) => put_yes(&t.words, t.count, e.count, &list, out),
     }
 }

@@ -15,7 +15,7 @@ use Rattle.checking.specs.declared.Judged.the-variants.{Refused, Wrong, Right}
 use Rattle.checking.specs.Promise.{CheckPromise}
 use Rattle.checking.proofs.PromiseLaws.{form?}
 use Rattle.prismfleece.specs.Numbers.{checkNumber}
-use Rattle.prismfleece.proofs.Told.{Told, refusal, small, number, Fits, tells, unread-fits, few, cells-fit}
+use Rattle.prismfleece.proofs.Told.{Told, refusal, small, number, Fits, tells, refused-fits, few, cells-fit}
 
 abbrev pub told : Judged → Told
 told (Refused n p) = refusal n p
@@ -69,5 +69,5 @@ module _ (file list : List ℕ) (reply : Judged) (p : CheckPromise file list rep
   check-fits = go (readFile file) refl
     where
       go : (x : Reading) → readFile file ≡ x → Fits (told reply)
-      go (Reading.refused n q) e = fits (p .refused n q e) (unread-fits file n q e)
+      go (Reading.refused n q) e = fits (p .refused n q e) (refused-fits file n q e)
       go (Reading.accepted f) e = read f e

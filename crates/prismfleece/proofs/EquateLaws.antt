@@ -12,7 +12,7 @@ use Rattle.equating.specs.declared.Equated.{Equated}
 use Rattle.equating.specs.declared.Equated.the-variants.{Refused, No, Listed}
 use Rattle.equating.specs.Promise.{EquatePromise, Asked}
 use Rattle.prismfleece.specs.Numbers.{equateNumber}
-use Rattle.prismfleece.proofs.Told.{Told, refusal, small, number, Fits, tells, unread-fits, few, cells-fit}
+use Rattle.prismfleece.proofs.Told.{Told, refusal, small, number, Fits, tells, refused-fits, few, cells-fit}
 
 abbrev pub told : Equated → Told
 told (Refused n p) = refusal n p
@@ -63,5 +63,5 @@ module _ (file : List ℕ) (a b : ℕ) (before : List ℕ) (reply : Equated) (af
   equate-fits = go (readFile file) refl
     where
       go : (x : Reading) → readFile file ≡ x → Fits (told reply)
-      go (Reading.refused n q) e = fits (p .unread n q e .0) (unread-fits file n q e)
+      go (Reading.refused n q) e = fits (p .refused n q e .0) (refused-fits file n q e)
       go (Reading.accepted f) e = read f e

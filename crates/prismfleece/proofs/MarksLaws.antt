@@ -12,7 +12,7 @@ use Rattle.building.specs.declared.Marked.{Marked}
 use Rattle.building.specs.declared.Marked.the-variants.{Refused, Marks}
 use Rattle.building.specs.Promise.{MarksPromise}
 use Rattle.prismfleece.specs.Numbers.{marksNumber}
-use Rattle.prismfleece.proofs.Told.{Told, refusal, small, number, Fits, tells, unread-fits, few, cells-fit, variable-fits}
+use Rattle.prismfleece.proofs.Told.{Told, refusal, small, number, Fits, tells, refused-fits, few, cells-fit, variable-fits}
 
 abbrev pub told : Marked → Told
 told (Refused n p) = refusal n p
@@ -51,5 +51,5 @@ module _ (file before : List ℕ) (reply : Marked) (after : List ℕ) (p : Marks
   marks-fits = go (readFile file) refl
     where
       go : (x : Reading) → readFile file ≡ x → Fits (told reply)
-      go (Reading.refused n q) e = fits (p .refused n q e .0) (unread-fits file n q e)
+      go (Reading.refused n q) e = fits (p .refused n q e .0) (refused-fits file n q e)
       go (Reading.accepted f) e = read f e (firstVariable (f .cells)) refl

@@ -14,7 +14,7 @@ use Rattle.reducing.specs.declared.Reduced.{Reduced}
 use Rattle.reducing.specs.declared.Reduced.the-variants.{Refused, Reduced as Written}
 use Rattle.reducing.specs.Promise.{ReducePromise}
 use Rattle.prismfleece.specs.Numbers.{reduceNumber}
-use Rattle.prismfleece.proofs.Told.{Told, refusal, small, number, Fits, tells, unread-fits, variable-fits}
+use Rattle.prismfleece.proofs.Told.{Told, refusal, small, number, Fits, tells, refused-fits, variable-fits}
 
 abbrev pub told : Reduced → Told
 told (Refused n p) = refusal n p
@@ -56,5 +56,5 @@ module _ (file before : List ℕ) (reply : Reduced) (after : List ℕ) (p : Redu
   reduce-fits = go (readFile file) refl
     where
       go : (x : Reading) → readFile file ≡ x → Fits (told reply)
-      go (Reading.refused n q) e = fits (p .refused n q e .0) (unread-fits file n q e)
+      go (Reading.refused n q) e = fits (p .refused n q e .0) (refused-fits file n q e)
       go (Reading.accepted f) e = read f e (firstVariable (f .cells)) refl

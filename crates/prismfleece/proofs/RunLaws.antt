@@ -18,7 +18,7 @@ use Rattle.running.specs.declared.Solved.{Solved}
 use Rattle.running.specs.declared.Solved.the-variants.{Refused, No, Yes}
 use Rattle.running.specs.Promise.{RunPromise}
 use Rattle.prismfleece.specs.Numbers.{runNumber}
-use Rattle.prismfleece.proofs.Told.{Told, refusal, small, number, Fits, tells, unread-fits, few, cells-fit}
+use Rattle.prismfleece.proofs.Told.{Told, refusal, small, number, Fits, tells, refused-fits, few, cells-fit}
 
 abbrev pub told : Solved → Told
 told (Refused n p) = refusal n p
@@ -59,7 +59,7 @@ module _ (file before : List ℕ) (reply : Solved) (after : List ℕ) (p : RunPr
   run-fits = go (readFile file) refl
     where
       go : (x : Reading) → readFile file ≡ x → Fits (told reply)
-      go (Reading.refused n q) e = fits (p .unread n q e .0) (unread-fits file n q e)
+      go (Reading.refused n q) e = fits (p .refused n q e .0) (refused-fits file n q e)
       go (Reading.accepted f) e = read f e
 
 -- The list at the front of the buffer is the right list of the promise, so the list check calls it right.
@@ -67,7 +67,7 @@ pub shown-checked : {file before after : List ℕ} {n : ℕ} {judged : Judged} �
 shown-checked {file} {before} {after} {n} {judged} p j = go (readFile file) refl
   where
     go : (x : Reading) → readFile file ≡ x → judged ≡ Right
-    go (Reading.refused m q) e = let z = p .unread m q e .0 in clash (cc)
+    go (Reading.refused m q) e = let z = p .refused m q e .0 in clash (cc)
     go (Reading.accepted f) e = elim (decLt (length before) (length (f .cells))) [
       | yes h ↦ (let z = p .short f e h .0 in clash (cc))
       | no h ↦ elim (p .replied f (record { read = e; room = omega arith })) [

@@ -41,8 +41,8 @@ module _ {R : Type 0} (told : R → Told) (reply : Told → R) (back : (r : R) �
 -- ---- the refusals that the questions share
 
 module _ (file : List ℕ) where
-  pub unread-fits : (n p : ℕ) → readFile file ≡ Reading.refused n p → Fits (refusal n p)
-  unread-fits n p e = let (x, y, z) = refused-place file n p e in (x, z)
+  pub refused-fits : (n p : ℕ) → readFile file ≡ Reading.refused n p → Fits (refusal n p)
+  refused-fits n p e = let (x, y, z) = refused-place file n p e in (x, z)
 
   module _ (f : File) (e : readFile file ≡ Reading.accepted f) where
     pub few : length (f .cells) ≤ 128

@@ -8,13 +8,17 @@ use native.Mathlib.Numerals.{add-one}
 use lib.ListN.{length, getD, drop, set, length-append}
 use lib.Seq.{sets, length-sets}
 use borrow.Author.Tests.{eq-eqb, ne-eqb}
-use Rattle.model.specs.Case.{Cell, LN}
+use Rattle.model.specs.Message.{App, Two}
+use Rattle.model.specs.Case as case
+use Rattle.model.specs.Case.{AT, VA, ONE, TWO, LN}
 use Rattle.model.specs.Format.{Kind, mark, cellBytes, eventBytes, joined, fileBytes}
-use Rattle.model.specs.Stored.{cellAt, tableAt}
+use Rattle.model.specs.Stored.{tableIn}
 use Rattle.model.proofs.Listed.{sets-append, sets-front}
+use Rattle.cells.specs.Cells.{asCell}
+use Rattle.cells.specs.declared.Cell.{Cell}
+use Rattle.cells.specs.declared.Cell.the-variants as cell
 use Rattle.reducing.specs.declared.Plan.{Plan}
 use Rattle.reducing.specs.Plan.{upTo, marked, planned, Sized}
-use Rattle.reducing.specs.Bytes.{kindMark}
 
 -- ---- one record
 pub set-two : (l : List ℕ) (at a b : ℕ) → set (set l at a) (at + 1) b ≡ sets l at (a ∷ b ∷ [])
@@ -28,42 +32,32 @@ set-four l at a b c d =
     let z : at + 3 ≡ suc (suc (suc at)) = omega arith in
     ap (λ k. set k (at + 3) d) (set-three l at a b c) ∙ ap (λ i. set (sets l at (a ∷ b ∷ c ∷ [])) i d) z
 
-pub atom-mark : (k : ℕ) → k ≡ 0 → 65 ∷ 84 ∷ [] ≡ kindMark k
-atom-mark zero e = refl
-atom-mark (suc k) e = absurd (omega arith)
+-- ---- the record of a cell
+module _ {k : Cell} where
+  pub bytes-name : {n : ℕ} → k ≡ cell.Atom n → 65 ∷ 84 ∷ n / 256 ∷ n % 256 ∷ [] ≡ cellBytes (asCell k)
+  bytes-name e = rw e refl
 
-pub pair-mark : (k : ℕ) → k ≡ 2 → 80 ∷ 82 ∷ [] ≡ kindMark k
-pair-mark k e = ap kindMark (sym e)
+  pub bytes-variable : k ≡ cell.Variable → 86 ∷ 65 ∷ [] ≡ cellBytes (asCell k)
+  bytes-variable e = rw e refl
 
-pub seal-mark : (k : ℕ) → k ≡ 3 → 83 ∷ 69 ∷ [] ≡ kindMark k
-seal-mark k e = ap kindMark (sym e)
+  pub bytes-pair : {l r : ℕ} → k ≡ cell.Pair l r → 80 ∷ 82 ∷ l ∷ r ∷ [] ≡ cellBytes (asCell k)
+  bytes-pair e = rw e refl
 
-pub apply-mark : (k : ℕ) → (k ≡ 0 → ⊥) → (k ≡ 1 → ⊥) → (k ≡ 2 → ⊥) → (k ≡ 3 → ⊥) → 65 ∷ 80 ∷ [] ≡ kindMark k
-apply-mark zero a b c d = absurd (a refl)
-apply-mark (suc zero) a b c d = absurd (b refl)
-apply-mark (suc (suc zero)) a b c d = absurd (c refl)
-apply-mark (suc (suc (suc zero))) a b c d = absurd (d refl)
-apply-mark (suc (suc (suc (suc k)))) a b c d = refl
+  pub bytes-seal : {b s : ℕ} → k ≡ cell.Seal b s → 83 ∷ 69 ∷ b ∷ s ∷ [] ≡ cellBytes (asCell k)
+  bytes-seal e = rw e refl
 
-pub cell-put : (l : List ℕ) (at k x y : ℕ) → (k ≡ 1 → ⊥) → y < 256 → set (set (sets l at (kindMark k)) (at + 2) x) (at + 3) y ≡ sets l at (cellBytes (cellAt k x y))
-cell-put l at zero x y v h =
-    let q : (x * 256 + y) / 256 ≡ x = omega arith in
-    let r : (x * 256 + y) % 256 ≡ y = omega arith in
-    set-four l at 65 84 x y ∙ (ap (λ x. sets l at (65 ∷ 84 ∷ x ∷ y ∷ [])) (sym q) ∙ ap (λ y′. sets l at (65 ∷ 84 ∷ (x * 256 + y) / 256 ∷ y′ ∷ [])) (sym r))
-cell-put l at (suc zero) x y v h = absurd (v refl)
-cell-put l at (suc (suc zero)) x y v h = set-four l at 80 82 x y
-cell-put l at (suc (suc (suc zero))) x y v h = set-four l at 83 69 x y
-cell-put l at (suc (suc (suc (suc k)))) x y v h = set-four l at 65 80 x y
+  pub bytes-apply : {f a : ℕ} → k ≡ cell.Apply f a → 65 ∷ 80 ∷ f ∷ a ∷ [] ≡ cellBytes (asCell k)
+  bytes-apply e = rw e refl
 
 pub learn-put : (l : List ℕ) (at c : ℕ) → set (sets l at (76 ∷ 78 ∷ [])) (at + 2) c ≡ sets l at (eventBytes (LN c))
 learn-put l at c = set-three l at 76 78 c
 
-cell-length : (k x y : ℕ) → (k ≡ 1 → ⊥) → length (cellBytes (cellAt k x y)) ≡ 4
-cell-length zero x y v = refl
-cell-length (suc zero) x y v = absurd (v refl)
-cell-length (suc (suc zero)) x y v = refl
-cell-length (suc (suc (suc zero))) x y v = refl
-cell-length (suc (suc (suc (suc k)))) x y v = refl
+cell-length : (k : case.Cell) → (k ≡ VA → ⊥) → length (cellBytes k) ≡ 4
+cell-length (AT n) v = refl
+cell-length VA v = absurd (v refl)
+cell-length (ONE (App f) a) v = refl
+cell-length (TWO Two.Pair l r) v = refl
+cell-length (TWO Two.Seal b s) v = refl
 
 -- ---- records in a row
 joined-append : {A : Type 0} (bytes : A → List ℕ) (l k : List A) → joined bytes (l ++ k) ≡ joined bytes l ++ joined bytes k
@@ -81,21 +75,21 @@ events-length [] = refl
 events-length (c ∷ l) = (let h = events-length l in omega arith)
 
 -- ---- the cells
-module _ (kinds firsts seconds : List ℕ) where
-  abbrev row : ℕ → Cell
-  row = tableAt kinds firsts seconds
+module _ (words : List ℕ) where
+  abbrev row : case.Table
+  row = tableIn words
 
-  pub cells-length : (n : ℕ) → ((j : ℕ) → j < n → getD kinds j 0 ≡ 1 → ⊥) → length (joined cellBytes (upTo row n)) ≡ 4 * n
+  pub cells-length : (n : ℕ) → ((j : ℕ) → j < n → row j ≡ VA → ⊥) → length (joined cellBytes (upTo row n)) ≡ 4 * n
   unfolding upTo joined
   cells-length zero h = refl
   cells-length (suc n) h =
       let a = cells-length n (λ j l. h j (omega arith)) in
-      let b = cell-length (getD kinds n 0) (getD firsts n 0) (getD seconds n 0) (h n (omega arith)) in
+      let b = cell-length (row n) (h n (omega arith)) in
       let c = length-append (joined cellBytes (upTo row n)) (cellBytes (row n)) in
       ap length (joined-last cellBytes (upTo row n) (row n)) ∙ (omega arith)
 
   -- The record of the cell i behind those before it.
-  pub cells-next : (l out after : List ℕ) (i n : ℕ) → i < n → ((j : ℕ) → j < n → getD kinds j 0 ≡ 1 → ⊥) → out ≡ sets l 0 (joined cellBytes (upTo row i)) →
+  pub cells-next : (l out after : List ℕ) (i n : ℕ) → i < n → ((j : ℕ) → j < n → row j ≡ VA → ⊥) → out ≡ sets l 0 (joined cellBytes (upTo row i)) →
       after ≡ sets out (4 * i) (cellBytes (row i)) → after ≡ sets l 0 (joined cellBytes (upTo row (i + 1)))
   unfolding upTo
   cells-next l out after i n lt v e f =
@@ -154,9 +148,9 @@ module _ (marks : List ℕ) (start : ℕ) (l : List ℕ) where
 -- ---- the file
 pub file-length : (p : Plan) → Sized p → 4 * p .cells + 3 * p .events + 2 ≡ length (fileBytes (planned p))
 file-length p s =
-    let A : List ℕ = joined cellBytes (upTo (tableAt (p .kind) (p .first) (p .second)) (p .cells)) in
+    let A : List ℕ = joined cellBytes (upTo (tableIn (p .table)) (p .cells)) in
     let B : List ℕ = joined eventBytes (map LN (marked (p .learnt) (p .cells))) in
-    let a : length A ≡ 4 * p .cells = cells-length (p .kind) (p .first) (p .second) (p .cells) (s .solid) in
+    let a : length A ≡ 4 * p .cells = cells-length (p .table) (p .cells) (s .solid) in
     let b : length B ≡ 3 * length (marked (p .learnt) (p .cells)) = events-length (marked (p .learnt) (p .cells)) in
     let c = s .counts in
     let d : length (B ++ mark Kind.End) ≡ length B + 2 = length-append B (mark Kind.End) in
@@ -168,7 +162,7 @@ pub file-written : (p : Plan) → Sized p → (l middle after : List ℕ) → le
 file-written p s l middle after h e f =
     let A : List ℕ = joined cellBytes (planned p .cells) in
     let B : List ℕ = joined eventBytes (planned p .events) ++ mark Kind.End in
-    let a = cells-length (p .kind) (p .first) (p .second) (p .cells) (s .solid) in
+    let a = cells-length (p .table) (p .cells) (s .solid) in
     f ∙ (ap (λ o. sets o (4 * p .cells) B) e ∙ (sets-append A l B 0 (4 * p .cells) (omega arith) ∙ sets-front (A ++ B) l h))
 
 pub sets-kept : (n : ℕ) (out after : List ℕ) (at : ℕ) (vs : List ℕ) → length out ≡ n → after ≡ sets out at vs → length after ≡ n

@@ -1,19 +1,17 @@
 -- From the plan of the rows of an accepted file to its reduced file, and the replies by it.
-use mathlib.Core.Path.{_≡_, sym, _∙_, subst, fun-ext}
+use mathlib.Core.Path.{_≡_, sym, subst, fun-ext}
 use mathlib.Core.List.{List}
 use Prim.Native.Nat.{ℕ, _≤_, _<_}
 use native.Mathlib.Omega.{arith}
 use lib.ListN.{length}
 use Rattle.model.specs.Message.{Message, atom}
-use Rattle.model.specs.Case.{File, Ground, tableOf, runOf}
+use Rattle.model.specs.Case.{File, VA, Ground, tableOf, runOf}
 use Rattle.model.specs.Reduce.{Reduces}
 use Rattle.model.specs.Format.{fileBytes}
 use Rattle.model.specs.Replies.{messagesOf, HeardOf, laid}
-use Rattle.model.specs.Stored.{tableAt, runAt}
+use Rattle.model.specs.Stored.{tableIn, runIn}
 use Rattle.model.proofs.Read.{message-reads, reads-one}
-use Rattle.model.proofs.Rows.{kind-row}
-use Rattle.model.proofs.Stored.{kind-variable}
-use Rattle.model.proofs.Accepted.{accepted-file}
+use Rattle.model.proofs.Accepted.{Bytes, accepted-file}
 use Rattle.model.proofs.Variables.{no-variable}
 use Rattle.theory.proofs.Reduced.{Reduction, reduced-builds}
 use Rattle.casefile.specs.declared.Case.{Case}
@@ -42,22 +40,19 @@ reduced-file K g few (μ, learnt, reduces, events) = (
     one = fun-ext (reads-one (tableOf (g .cells)) (λ c. atom 0) μ (messagesOf g) (reduces .cells .lower) (reduces .cells .reads)
         (message-reads (tableOf (g .cells)) (λ c. atom 0) (reduces .cells .lower)))
 
-module _ {file : List ℕ} {r : Case} (w : CaseFile file r) where
-  pub case-solid : r .variable ≡ found.Nowhere → Solid (r .table .kind)
-  case-solid e = subst (λ t. Solid (t .kind)) (sym (w .table))
-      (λ c i. no-variable (w .f .cells) .0 (case-free w e) c (kind-variable (tableOf (w .f .cells) c) (sym (kind-row (w .f .cells) c) ∙ i)))
+module _ {file : List ℕ} {r : Case} (w : CaseFile file r) (b : Bytes file) where
+  pub case-solid : r .variable ≡ found.Nowhere → Solid (r .table .words)
+  case-solid e c v = no-variable (w .f .cells) .0 (case-free w e) c (subst (λ T. T c ≡ VA) (case-table w b) v)
 
-  module _ (e : r .variable ≡ found.Nowhere) {p : Plan} (size : Sized p)
-      (plans : PlansRun (tableAt (r .table .kind) (r .table .first) (r .table .second)) (runAt (r .events .count) (r .events .kind) (r .events .cell)) p) where
+  module _ (e : r .variable ≡ found.Nowhere) {p : Plan} (size : Sized p) (plans : PlansRun (tableIn (r .table .words)) (runIn (r .run .count) (r .run .words)) p) where
     plans-file : PlansRun (tableOf (w .f .cells)) (runOf (w .f .events)) p
-    plans-file = subst (λ T. PlansRun T (runOf (w .f .events)) p) (case-table w)
-        (subst (λ ev. PlansRun (tableAt (r .table .kind) (r .table .first) (r .table .second)) ev p) (case-run w) plans)
+    plans-file = subst (λ T. PlansRun T (runOf (w .f .events)) p) (case-table w b) (subst (λ ev. PlansRun (tableIn (r .table .words)) ev p) (case-run w) plans)
 
     case-reduces : ReducedBy (w .f) (planned p)
     case-reduces =
         let ground : Ground (tableOf (w .f .cells)) (messagesOf (w .f)) = message-reads (tableOf (w .f .cells)) (λ c. atom 0) (accepted-file file (w .f) (w .read) .lower) in
         let (reduced, same) = plans-file (messagesOf (w .f)) ground in
-        let few : length (planned p .cells) ≤ 128 = (let l = length-upTo (tableAt (p .kind) (p .first) (p .second)) (p .cells) in let s = size .few in omega arith) in
+        let few : length (planned p .cells) ≤ 128 = (let l = length-upTo (tableIn (p .table)) (p .cells) in let s = size .few in omega arith) in
         let (learnt, red) = reduced-file (HeardOf (w .f)) (planned p) few reduced in
         record {
           free = case-free w e;

@@ -1,7 +1,7 @@
 -- Heights, from the first cell up: parts stand lower.
 use mathlib.Core.Path.{_≡_, refl, sym, _∙_, ap}
 use mathlib.Core.List.{List}
-use Prim.Native.Nat.{ℕ, zero, suc, _+_, _≤_, _<_, max}
+use Prim.Native.Nat.{ℕ, _+_, _≤_, _<_, max}
 use native.Mathlib.Omega.{arith}
 use native.Mathlib.Decide.{ℕ-discrete, decLt}
 use lib.ListN.{length, getD, set, length-set, length-replicate, replicate}
@@ -9,31 +9,28 @@ use lib.Seq.{getD-set-same, getD-set-other}
 use Rattle.model.specs.Message.{Message, atom}
 use Rattle.model.specs.Case.{Cell, AT, VA, ONE, TWO, Table, Part, in-arg, in-left, in-right, look, Ground}
 use Rattle.model.specs.Reduce.{height}
-use Rattle.model.specs.Stored.{cellAt, tableAt}
-use Rattle.theory.specs.Cells.{Rows}
-use Rattle.reducing.specs.Bare.{heightAt, Heights}
+use Rattle.model.specs.Stored.{tableIn}
+use Rattle.model.proofs.Read.{clash}
 use Rattle.model.proofs.Rows.{zeros}
+use Rattle.theory.specs.Cells.{TableWords}
+use Rattle.cells.specs.Cells.{partsOf}
+use Rattle.cells.specs.declared.Parts.the-variants as parts
+use Rattle.reducing.specs.Bare.{heightAt, Heights}
+use Rattle.reducing.proofs.PartLaws.{parts-one, parts-two}
 
--- ---- by kind and fields
+-- ---- by the parts
 module _ (high : ℕ → ℕ) where
-  pub height-low : (k x y : ℕ) → k < 2 → 0 ≡ heightAt high (cellAt k x y)
-  height-low zero x y h = refl
-  height-low (suc zero) x y h = refl
-  height-low (suc (suc k)) x y h = absurd (omega arith)
+  pub height-none : (k : Cell) → partsOf k ≡ parts.None → 0 ≡ heightAt high k
+  height-none (AT n) e = refl
+  height-none VA e = refl
+  height-none (ONE g a) e = clash (cc)
+  height-none (TWO h l r) e = clash (cc)
 
-  pub height-app : (k x y b : ℕ) → 4 ≤ k → b ≡ high y → b + 1 ≡ heightAt high (cellAt k x y)
-  height-app zero x y b h e = absurd (omega arith)
-  height-app (suc zero) x y b h e = absurd (omega arith)
-  height-app (suc (suc zero)) x y b h e = absurd (omega arith)
-  height-app (suc (suc (suc zero))) x y b h e = absurd (omega arith)
-  height-app (suc (suc (suc (suc k)))) x y b h e = omega arith
+  pub height-one : (k : Cell) {a x : ℕ} → partsOf k ≡ parts.One a → x ≡ high a → x + 1 ≡ heightAt high k
+  height-one k e i = let (g, z) = parts-one k e in rw z (omega arith)
 
-  pub height-two : (k x y v : ℕ) → 2 ≤ k → k < 4 → v ≡ max (high x) (high y) → v + 1 ≡ heightAt high (cellAt k x y)
-  height-two zero x y v h h′ e = absurd (omega arith)
-  height-two (suc zero) x y v h h′ e = absurd (omega arith)
-  height-two (suc (suc zero)) x y v h h′ e = omega arith
-  height-two (suc (suc (suc zero))) x y v h h′ e = omega arith
-  height-two (suc (suc (suc (suc k)))) x y v h h′ e = absurd (omega arith)
+  pub height-two : (k : Cell) {a b x : ℕ} → partsOf k ≡ parts.Two a b → x ≡ max (high a) (high b) → x + 1 ≡ heightAt high k
+  height-two k e i = let (h, z) = parts-two k e in rw z (omega arith)
 
 -- ---- of messages
 height-same : (f g : ℕ → ℕ) (k : Cell) → ((d : ℕ) → Part k d → f d ≡ g d) → heightAt f k ≡ heightAt g k
@@ -71,9 +68,9 @@ climbed-start T = record {
   exact = λ m r c h. absurd (omega arith);
 }
 
-module _ (n : ℕ) (kinds firsts seconds : List ℕ) (rows : Rows n kinds firsts seconds) where
+module _ (n : ℕ) (words : List ℕ) (rows : TableWords n words) where
   abbrev T : Table
-  T = tableAt kinds firsts seconds
+  T = tableIn words
 
   pub climbed-next : (i : ℕ) (high : List ℕ) → Climbed T i high → i < 129 → (v : ℕ) → v ≡ heightAt (λ d. getD high d 0) (T i) → Climbed T (i + 1) (set high i v)
   climbed-next i high k h v e =
@@ -97,9 +94,7 @@ module _ (n : ℕ) (kinds firsts seconds : List ℕ) (rows : Rows n kinds firsts
 
   -- Beyond the file's cells stands his own name.
   own-height : (m : ℕ → Message) → Ground T m → (c : ℕ) → n ≤ c → height (m c) ≡ 0
-  own-height m r c h =
-      let (a, x, y) = rows .beyond c h in
-      ap height (r c) ∙ (height-look m (T c) ∙ sym (height-low (λ d. height (m d)) (getD kinds c 0) (getD firsts c 0) (getD seconds c 0) (omega arith)))
+  own-height m r c h = ap height (r c) ∙ (height-look m (T c) ∙ ap (heightAt (λ d. height (m d))) (rows .beyond c h))
 
   pub climbed-end : (high : List ℕ) → Climbed T n high → Heights T n high
   climbed-end high k = record {

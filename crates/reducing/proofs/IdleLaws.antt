@@ -1,46 +1,67 @@
--- When a cell is name 0 or composed of parts that have B, by its kind and fields.
-use mathlib.Core.Path.{_≡_, refl, ap}
-use mathlib.Core.List.{List}
+-- When a cell is name 0 or composed of parts that have B, by what it is composed of.
+use mathlib.Core.Path.{_≡_, refl, ap, subst}
 use mathlib.Core.Bool.{Bool}
-use Prim.Native.Nat.{ℕ, zero, suc, _≤_, _<_, min}
-use native.Mathlib.Omega.{arith}
+use Prim.Native.Nat.{ℕ}
 use lib.Dec.{eqb}
-use lib.ListN.{getD}
-use Rattle.theory.specs.Cells.{classAt}
-use Rattle.model.specs.Stored.{cellAt}
+use Rattle.model.specs.Case as case
+use Rattle.model.specs.Case.{AT}
+use Rattle.model.proofs.Read.{clash}
+use Rattle.theory.specs.Cells.{Makes}
 use Rattle.theory.specs.Decides.{Decides}
 use Rattle.theory.proofs.Decides.{decides-eqb, decides-iff}
+use Rattle.cells.specs.Cells.{asCell, MadeOf, none, one, two}
+use Rattle.cells.specs.declared.Cell.{Cell}
+use Rattle.cells.specs.declared.Cell.the-variants as cell
+use Rattle.cells.specs.declared.Parts.{Parts}
+use Rattle.cells.specs.declared.Parts.the-variants as parts
 use Rattle.reducing.specs.Bare.{Idle}
 
-module _ (B : ℕ → Type 0) where
-  pub idle-first : (k x y : ℕ) → k ≡ 0 → (x ≡ 0 → ⊥) → Idle B (cellAt k x y) → ⊥
-  idle-first zero x y e h i = h (omega arith)
-  idle-first (suc k) x y e h i = omega arith
+-- ---- his own name
+name-one : (n m : ℕ) → AT n ≡ AT m → n ≡ m
+name-one n m e = cc
 
-  pub idle-atom : (k x y : ℕ) → k ≡ 0 → x ≡ 0 → Decides (eqb y 0) (Idle B (cellAt k x y))
-  idle-atom zero x y e h = decides-eqb y 0 (λ i. omega arith) (λ i. omega arith)
-  idle-atom (suc k) x y e h = absurd (omega arith)
+pub own-name : {k : Cell} {n : ℕ} → k ≡ cell.Atom n → Decides (eqb n 0) (asCell k ≡ AT 0)
+own-name {k} {n} e = rw e (decides-eqb n 0 (ap AT) (name-one n 0))
 
-  pub idle-second : (k x y : ℕ) → (k ≡ 0 → ⊥) → (k ≡ 1 → ⊥) → (B y → ⊥) → Idle B (cellAt k x y) → ⊥
-  idle-second zero x y z v h i = z refl
-  idle-second (suc zero) x y z v h i = v refl
-  idle-second (suc (suc zero)) x y z v h (l, r) = h r
-  idle-second (suc (suc (suc zero))) x y z v h (l, r) = h r
-  idle-second (suc (suc (suc (suc k)))) x y z v h i = h i
+-- ---- composed cells
+-- What makes a cell is told by the cell, and makes no name.
+makes-name : {n a b : ℕ} {k : case.Cell} → Makes k a b → k ≡ AT n → ⊥
+makes-name (Makes.ones s) e = clash (cc)
+makes-name Makes.twos e = clash (cc)
 
-  pub idle-app : (k x y : ℕ) → 4 ≤ k → B y → Idle B (cellAt k x y)
-  idle-app zero x y h b = absurd (omega arith)
-  idle-app (suc zero) x y h b = absurd (omega arith)
-  idle-app (suc (suc zero)) x y h b = absurd (omega arith)
-  idle-app (suc (suc (suc zero))) x y h b = absurd (omega arith)
-  idle-app (suc (suc (suc (suc k)))) x y h b = b
+makes-same : {k : case.Cell} {a b c d : ℕ} → Makes k a b → Makes k c d → (a ≡ c) × (b ≡ d)
+makes-same (Makes.ones s) (Makes.ones s′) = (refl, refl)
+makes-same Makes.twos Makes.twos = (refl, refl)
 
-  pub idle-two : (k x y : ℕ) (t : Bool) → (k ≡ 0 → ⊥) → (k ≡ 1 → ⊥) → k < 4 → B y → Decides t (B x) → Decides t (Idle B (cellAt k x y))
-  idle-two zero x y t z v h b q = absurd (z refl)
-  idle-two (suc zero) x y t z v h b q = absurd (v refl)
-  idle-two (suc (suc zero)) x y t z v h b q = decides-iff q (λ a. (a, b)) (λ (a, b). a)
-  idle-two (suc (suc (suc zero))) x y t z v h b q = decides-iff q (λ a. (a, b)) (λ (a, b). a)
-  idle-two (suc (suc (suc (suc k)))) x y t z v h b q = absurd (omega arith)
+module _ (B : ℕ → Type 0) {k : case.Cell} where
+  idle-parts : {a b : ℕ} → Makes k a b → Idle B k → B a × B b
+  idle-parts s (Idle.own e) = absurd (makes-name s e)
+  idle-parts s (Idle.made s′ x y) = let (i, j) = makes-same s′ s in (subst B i x, subst B j y)
 
-pub class-below : (rep : List ℕ) (c : ℕ) → c < 128 → getD rep c 0 ≡ classAt rep c
-class-below rep c h = (let z : c ≡ min c 128 = omega arith in ap (λ i. getD rep i 0) z)
+  pub idle-none : {p : Parts} {t : Bool} → p ≡ parts.None → MadeOf k p → Decides t (k ≡ AT 0) → Decides t (Idle B k)
+  idle-none {p} {t} e m d = go (subst (MadeOf k) e m)
+    where
+      only : ((a b : ℕ) → Makes k a b → ⊥) → Idle B k → k ≡ AT 0
+      only never (Idle.own z) = z
+      only never (Idle.made {a} {b} s x y) = absurd (never a b s)
+
+      go : MadeOf k parts.None → Decides t (Idle B k)
+      go (none never) = decides-iff d Idle.own (only never)
+
+  pub idle-one : {p : Parts} {a : ℕ} {t : Bool} → p ≡ parts.One a → MadeOf k p → Decides t (B a) → Decides t (Idle B k)
+  idle-one {p} {a} {t} e m d = go (subst (MadeOf k) e m)
+    where
+      go : MadeOf k (parts.One a) → Decides t (Idle B k)
+      go (one z s) = decides-iff d (λ x. Idle.made s x x) (λ i. idle-parts s i .0)
+
+  pub idle-right : {p : Parts} {a b : ℕ} → p ≡ parts.Two a b → MadeOf k p → (B b → ⊥) → Idle B k → ⊥
+  idle-right {p} {a} {b} e m never i = go (subst (MadeOf k) e m)
+    where
+      go : MadeOf k (parts.Two a b) → ⊥
+      go (two z s) = never (idle-parts s i .1)
+
+  pub idle-two : {p : Parts} {a b : ℕ} {t : Bool} → p ≡ parts.Two a b → MadeOf k p → B b → Decides t (B a) → Decides t (Idle B k)
+  idle-two {p} {a} {b} {t} e m y d = go (subst (MadeOf k) e m)
+    where
+      go : MadeOf k (parts.Two a b) → Decides t (Idle B k)
+      go (two z s) = decides-iff d (λ x. Idle.made s x y) (λ i. idle-parts s i .0)

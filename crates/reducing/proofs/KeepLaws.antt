@@ -2,23 +2,22 @@
 use mathlib.Core.Path.{_≡_, refl, sym, _∙_, subst}
 use mathlib.Core.Logic.{_⊎_, inl, inr}
 use mathlib.Core.List.{List}
-use Prim.Native.Nat.{ℕ, zero, suc, _+_, _≤_, _<_}
+use Prim.Native.Nat.{ℕ, _+_, _≤_, _<_}
 use native.Mathlib.Omega.{arith}
 use native.Mathlib.Decide.{ℕ-discrete}
 use lib.ListN.{length, set, length-set}
-use Rattle.model.specs.Message.{One, App, Two}
-use Rattle.model.specs.Case.{Cell, AT, VA, ONE, TWO, Table, Part, in-arg, in-left, in-right}
-use Rattle.model.specs.Stored.{cellAt, tableAt}
-use Rattle.model.proofs.Rows.{no-part}
+use Rattle.model.specs.Message.{One, Two}
+use Rattle.model.specs.Case.{Cell, ONE, TWO, Table, Part, in-arg, in-left, in-right}
+use Rattle.model.specs.Stored.{tableIn}
 use Rattle.theory.specs.Cells.{classAt, On}
 use Rattle.theory.proofs.MarkRows.{on?, set-on, set-kept, set-cases}
+use Rattle.cells.specs.Cells.{partsOf}
+use Rattle.cells.specs.declared.Parts.the-variants as parts
 use Rattle.reducing.specs.Given.{Given}
 use Rattle.reducing.specs.Bare.{Adds, Kept, itself, part, Keeps}
+use Rattle.reducing.proofs.PartLaws.{parts-none, parts-one, parts-two}
 
 -- ---- the parts of a cell
-no-part-variable : {d : ℕ} → Part VA d → ⊥
-no-part-variable h = elim h [ ]
-
 part-one : {g : One} {a d : ℕ} → Part (ONE g a) d → d ≡ a
 part-one in-arg = refl
 
@@ -27,16 +26,11 @@ part-two in-left = inl refl
 part-two in-right = inr refl
 
 module _ (rep marks : List ℕ) (size : length marks ≡ 129) where
-  adds-nothing : (k : Cell) → ((d : ℕ) → Part k d → ⊥) → Adds rep marks k marks
-  adds-nothing k h = record { size = size; stays = λ c o. o; parts = λ d p. absurd (h d p); only = λ c n o. absurd (n o) }
+  pub adds-none : (k : Cell) → partsOf k ≡ parts.None → Adds rep marks k marks
+  adds-none k e = record { size = size; stays = λ c o. o; parts = λ d p. absurd (parts-none k e d p); only = λ c n o. absurd (n o) }
 
-  pub adds-none : (k x y : ℕ) → k < 2 → Adds rep marks (cellAt k x y) marks
-  adds-none zero x y h = adds-nothing (AT _) (λ d. no-part)
-  adds-none (suc zero) x y h = adds-nothing VA (λ d. no-part-variable)
-  adds-none (suc (suc k)) x y h = absurd (omega arith)
-
-  adds-one : (g : One) (y b : ℕ) → b ≡ classAt rep y → b ≤ 128 → Adds rep marks (ONE g y) (set marks b 1)
-  adds-one g y b e h =
+  adds-arg : (g : One) (y b : ℕ) → b ≡ classAt rep y → b ≤ 128 → Adds rep marks (ONE g y) (set marks b 1)
+  adds-arg g y b e h =
       let lt : b < length marks = omega arith in
       record {
         size = length-set marks b 1 ∙ size;
@@ -45,12 +39,8 @@ module _ (rep marks : List ℕ) (size : length marks ≡ 129) where
         only = λ c n o. elim (set-cases marks b c o) [ inl i ↦ (y, in-arg, i ∙ e) | inr o′ ↦ absurd (n o′) ];
       }
 
-  pub adds-app : (k x y b : ℕ) → 4 ≤ k → b ≡ classAt rep y → b ≤ 128 → Adds rep marks (cellAt k x y) (set marks b 1)
-  adds-app zero x y b h e l = absurd (omega arith)
-  adds-app (suc zero) x y b h e l = absurd (omega arith)
-  adds-app (suc (suc zero)) x y b h e l = absurd (omega arith)
-  adds-app (suc (suc (suc zero))) x y b h e l = absurd (omega arith)
-  adds-app (suc (suc (suc (suc k)))) x y b h e l = adds-one (App x) y b e l
+  pub adds-one : (k : Cell) {y : ℕ} → partsOf k ≡ parts.One y → classAt rep y ≤ 128 → Adds rep marks k (set marks (classAt rep y) 1)
+  adds-one k {y} e l = let (g, z) = parts-one k e in rw z (adds-arg g y (classAt rep y) refl l)
 
   adds-both : (t : Two) (x y a b : ℕ) → b ≡ classAt rep y → b ≤ 128 → a ≡ classAt rep x → a ≤ 128 → Adds rep marks (TWO t x y) (set (set marks b 1) a 1)
   adds-both t x y a b e l f q =
@@ -71,12 +61,9 @@ module _ (rep marks : List ℕ) (size : length marks ≡ 129) where
         ];
       }
 
-  pub adds-two : (k x y a b : ℕ) → 2 ≤ k → k < 4 → b ≡ classAt rep y → b ≤ 128 → a ≡ classAt rep x → a ≤ 128 → Adds rep marks (cellAt k x y) (set (set marks b 1) a 1)
-  adds-two zero x y a b h h′ e l f q = absurd (omega arith)
-  adds-two (suc zero) x y a b h h′ e l f q = absurd (omega arith)
-  adds-two (suc (suc zero)) x y a b h h′ e l f q = adds-both Two.Pair x y a b e l f q
-  adds-two (suc (suc (suc zero))) x y a b h h′ e l f q = adds-both Two.Seal x y a b e l f q
-  adds-two (suc (suc (suc (suc k)))) x y a b h h′ e l f q = absurd (omega arith)
+  pub adds-two : (k : Cell) {x y : ℕ} → partsOf k ≡ parts.Two x y → classAt rep y ≤ 128 → classAt rep x ≤ 128 →
+      Adds rep marks k (set (set marks (classAt rep y) 1) (classAt rep x) 1)
+  adds-two k {x} {y} e l q = let (t, z) = parts-two k e in rw z (adds-both t x y (classAt rep x) (classAt rep y) refl l refl q)
 
 -- ---- the loop
 -- The marks on kept cells, closed under parts from the cell i on.
@@ -86,16 +73,16 @@ pub record Keeping (T : Table) (rep bare : List ℕ) (i : ℕ) (marks : List ℕ
   pub has : (c : ℕ) → On bare c → On marks c
   pub closed : (c d : ℕ) → i ≤ c → On marks c → Part (T c) d → On marks (classAt rep d)
 
-module _ (n : ℕ) (kinds firsts seconds rep bare : List ℕ) (g : Given n kinds firsts seconds rep) (below : (c : ℕ) → On bare c → c < n) where
+module _ (n : ℕ) (words rep bare : List ℕ) (g : Given n words rep) (below : (c : ℕ) → On bare c → c < n) where
   abbrev T : Table
-  T = tableAt kinds firsts seconds
+  T = tableIn words
 
   pub kept-below : {c : ℕ} → Kept T rep bare c → c < n
   kept-below {c} (itself o) = below c o
   kept-below (part {c = c} {d = d} k p e) =
       let lt = kept-below k in
       let low = g .rows .lower c d p in
-      let le = g .classes .lowest d (omega arith) in
+      let le = g .lowest d (omega arith) in
       omega arith
 
   pub keeping-start : length bare ≡ 129 → Keeping T rep bare n bare
@@ -127,7 +114,7 @@ module _ (n : ℕ) (kinds firsts seconds rep bare : List ℕ) (g : Given n kinds
             let (d′, p′, e) = a .only c new q in
             let low = g .rows .lower i d′ p′ in
             let lt = kept-below (k .sound i o) in
-            let le = g .classes .lowest d′ (omega arith) in
+            let le = g .lowest d′ (omega arith) in
             absurd (omega arith))
       ];
     }

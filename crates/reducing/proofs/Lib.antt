@@ -1,4 +1,5 @@
 -- The laws of reducing.
+pub mod PartLaws
 pub mod IdleLaws
 pub mod MarkLaws
 pub mod KeepLaws

@@ -1,4 +1,4 @@
--- The rows of the plan, laid one after another; the lists that it stands for.
+-- The cells of the plan, laid one after another; the lists that it stands for.
 use mathlib.Core.Path.{_≡_, refl, sym, _∙_, ap, subst}
 use mathlib.Core.Bool.{Bool, true, false, cond}
 use mathlib.Core.Logic.{_⊎_, inl, inr}
@@ -11,10 +11,12 @@ use lib.Dec.{eqb}
 use lib.ListN.{length, getD, set, length-set, length-append, length-replicate, List·getD-append}
 use lib.Seq.{getD-set-same, getD-set-other, getD-at}
 use borrow.Author.Tests.{eq-eqb, ne-eqb, eqb-true}
+use Rattle.model.specs.Case.{Cell}
 use Rattle.model.specs.Reduce.{Rising, none, more}
+use Rattle.model.specs.Stored.{cellIn, tableIn, wordOf}
 use Rattle.theory.specs.Cells.{On}
 use Rattle.reducing.specs.declared.Plan.{Plan}
-use Rattle.reducing.specs.Order.{numberAt, newFirst, newSecond}
+use Rattle.reducing.specs.Order.{numberAt, placed}
 use Rattle.reducing.specs.Plan.{upTo, tally, marked, emptyPlan, putRow, Laid}
 
 -- ---- marks
@@ -41,52 +43,42 @@ marked-set l i b (suc n) h =
     ap (λ k. k ++ cond (eqb (getD (set l i b) n 0) 1) (n ∷ []) []) (marked-set l i b n (omega arith)) ∙
     ap (λ k. marked l n ++ cond (eqb k 1) (n ∷ []) []) (getD-set-other l i n b 0 (λ e. omega arith))
 
--- ---- rows
-pub laid-start : (kinds firsts seconds rep old new bare : List ℕ) → Laid kinds firsts seconds rep old new bare 0 emptyPlan
+-- ---- cells and marks in rows
+pub laid-start : (words rep old new bare : List ℕ) → Laid words rep old new bare 0 emptyPlan
 unfolding marked
-laid-start kinds firsts seconds rep old new bare = record {
+laid-start words rep old new bare = record {
   cells = refl;
-  kind-size = length-replicate {A = ℕ} 128 0;
-  first-size = length-replicate {A = ℕ} 128 0;
-  second-size = length-replicate {A = ℕ} 128 0;
+  table-size = length-replicate {A = ℕ} 128 0;
   learnt-size = length-replicate {A = ℕ} 128 0;
-  kinds-are = λ j h. absurd (omega arith);
-  firsts-are = λ j h. absurd (omega arith);
-  seconds-are = λ j h. absurd (omega arith);
+  cells-are = λ j h. absurd (omega arith);
   marks-are = λ j h. absurd (omega arith);
   counts = refl;
   below = omega arith;
 }
 
--- A row set at i, beyond those that are told.
-row-next : (l : List ℕ) (f : ℕ → ℕ) (i at v : ℕ) → at ≡ i → i < length l → v ≡ f i → ((j : ℕ) → j < i → getD l j 0 ≡ f j) → (j : ℕ) → j < i + 1 → getD (set l at v) j 0 ≡ f j
-row-next l f i at v q h e all j lt = elim (ℕ-discrete j i) [
-  | yes k ↦ ap (λ a. getD (set l a v) j 0) q ∙ (ap (λ j. getD (set l i v) j 0) k ∙ (getD-set-same l i v 0 h ∙ (e ∙ ap f (sym k))))
-  | no ne ↦ getD-set-other l at j v 0 (λ z. omega arith) ∙ all j (omega arith)
+-- A row set at i, beyond what is told of it.
+row-next : {A : Type 0} (g : ℕ → A) (l : List ℕ) (f : ℕ → A) (i at v : ℕ) → at ≡ i → i < length l → g v ≡ f i → ((j : ℕ) → j < i → g (getD l j 0) ≡ f j) →
+    (j : ℕ) → j < i + 1 → g (getD (set l at v) j 0) ≡ f j
+row-next g l f i at v q h e all j lt = elim (ℕ-discrete j i) [
+  | yes k ↦ ap (λ a. g (getD (set l a v) j 0)) q ∙ (ap (λ j. g (getD (set l i v) j 0)) k ∙ (ap g (getD-set-same l i v 0 h) ∙ (e ∙ ap f (sym k))))
+  | no ne ↦ ap g (getD-set-other l at j v 0 (λ z. omega arith)) ∙ all j (omega arith)
 ]
 
-module _ (kinds firsts seconds rep old new bare : List ℕ) (i : ℕ) (p : Plan) (L : Laid kinds firsts seconds rep old new bare i p) where
-  pub laid-next : i < 128 → (k x y b : ℕ) → k ≡ getD kinds (getD old i 0) 0 → x ≡ newFirst (numberAt rep new) (getD kinds (getD old i 0) 0) (getD firsts (getD old i 0) 0) →
-      y ≡ newSecond (numberAt rep new) (getD kinds (getD old i 0) 0) (getD seconds (getD old i 0) 0) → b ≡ getD bare (getD old i 0) 0 →
-      Laid kinds firsts seconds rep old new bare (i + 1) (putRow p k x y b)
-  laid-next lt k x y b ek ex ey eb =
+module _ (words rep old new bare : List ℕ) (i : ℕ) (p : Plan) (L : Laid words rep old new bare i p) where
+  pub laid-next : i < 128 → (w b : ℕ) → cellIn w ≡ placed (numberAt rep new) (tableIn words (getD old i 0)) → b ≡ getD bare (getD old i 0) 0 →
+      Laid words rep old new bare (i + 1) (putRow p w b)
+  laid-next lt w b ew eb =
       let q = L .cells in
-      let ks = L .kind-size in
-      let fs = L .first-size in
-      let ss = L .second-size in
+      let ts = L .table-size in
       let ls = L .learnt-size in
       let low : tally b ≤ 1 = tally-low (eqb b 1) in
       let bw = L .below in
       record {
         cells = ap (λ c. c + 1) q;
-        kind-size = length-set (p .kind) (p .cells) k ∙ ks;
-        first-size = length-set (p .first) (p .cells) x ∙ fs;
-        second-size = length-set (p .second) (p .cells) y ∙ ss;
+        table-size = length-set (p .table) (p .cells) w ∙ ts;
         learnt-size = length-set (p .learnt) (p .cells) b ∙ ls;
-        kinds-are = row-next (p .kind) (λ j. getD kinds (getD old j 0) 0) i (p .cells) k q (omega arith) ek (L .kinds-are);
-        firsts-are = row-next (p .first) (λ j. newFirst (numberAt rep new) (getD kinds (getD old j 0) 0) (getD firsts (getD old j 0) 0)) i (p .cells) x q (omega arith) ex (L .firsts-are);
-        seconds-are = row-next (p .second) (λ j. newSecond (numberAt rep new) (getD kinds (getD old j 0) 0) (getD seconds (getD old j 0) 0)) i (p .cells) y q (omega arith) ey (L .seconds-are);
-        marks-are = row-next (p .learnt) (λ j. getD bare (getD old j 0) 0) i (p .cells) b q (omega arith) eb (L .marks-are);
+        cells-are = row-next cellIn (p .table) (λ j. placed (numberAt rep new) (tableIn words (getD old j 0))) i (p .cells) w q (omega arith) ew (L .cells-are);
+        marks-are = row-next (λ b. b) (p .learnt) (λ j. getD bare (getD old j 0) 0) i (p .cells) b q (omega arith) eb (L .marks-are);
         counts = sym (
             marked-more (set (p .learnt) (p .cells) b) i ∙
             (ap (λ l. length l + tally (getD (set (p .learnt) (p .cells) b) i 0)) (marked-set (p .learnt) (p .cells) b i (omega arith)) ∙
@@ -99,12 +91,11 @@ module _ (kinds firsts seconds rep old new bare : List ℕ) (i : ℕ) (p : Plan)
       tally-low true = omega arith
       tally-low false = omega arith
 
-  -- The plan p′ with such a row.
-  pub laid-put : i < 128 → (x y : ℕ) (p′ : Plan) → x ≡ newFirst (numberAt rep new) (getD kinds (getD old i 0) 0) (getD firsts (getD old i 0) 0) →
-      y ≡ newSecond (numberAt rep new) (getD kinds (getD old i 0) 0) (getD seconds (getD old i 0) 0) →
-      p′ ≡ putRow p (getD kinds (getD old i 0) 0) x y (getD bare (getD old i 0) 0) → Laid kinds firsts seconds rep old new bare (i + 1) p′
-  laid-put lt x y p′ ex ey e =
-      subst (Laid kinds firsts seconds rep old new bare (i + 1)) (sym e) (laid-next lt (getD kinds (getD old i 0) 0) x y (getD bare (getD old i 0) 0) refl ex ey refl)
+  -- The plan p′ with such a cell.
+  pub laid-put : i < 128 → (k : Cell) (w : ℕ) (p′ : Plan) → k ≡ placed (numberAt rep new) (tableIn words (getD old i 0)) → cellIn (wordOf k) ≡ k → w ≡ wordOf k →
+      p′ ≡ putRow p w (getD bare (getD old i 0) 0) → Laid words rep old new bare (i + 1) p′
+  laid-put lt k w p′ ek es ew e =
+      subst (Laid words rep old new bare (i + 1)) (sym e) (laid-next lt w (getD bare (getD old i 0) 0) (ap cellIn ew ∙ (es ∙ ek)) refl)
 
 -- ---- the cells
 module _ {A : Type 0} (f : ℕ → A) where

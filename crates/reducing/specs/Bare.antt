@@ -8,14 +8,12 @@ use lib.ListN.{length, getD}
 use Rattle.model.specs.Message.{Message}
 use Rattle.model.specs.Case.{Cell, AT, VA, ONE, TWO, Table, Part, Ground}
 use Rattle.model.specs.Reduce.{height}
-use Rattle.theory.specs.Cells.{classAt, On}
+use Rattle.theory.specs.Cells.{Makes, classAt, On}
 
 -- A cell that the reduced file does not list: name 0, or composed of parts that have B.
-abbrev pub Idle : (ℕ → Type 0) → Cell → Type 0
-Idle B (AT n) = n ≡ 0
-Idle B VA = Unit
-Idle B (ONE g a) = B a
-Idle B (TWO h l r) = B l × B r
+pub data Idle (B : ℕ → Type 0) (k : Cell) : Type 0 where
+  own : k ≡ AT 0 → Idle B k
+  made : {a b : ℕ} → Makes k a b → B a → B b → Idle B k
 
 -- The class of the cell d is built.
 abbrev pub BuiltClass : List ℕ → List ℕ → ℕ → Type 0

@@ -1,29 +1,33 @@
--- What reducing is handed: rows without variables, the classes of their cells, the built marks; and what the messages have to do with them.
--- Classed, Solid, Given: the rows; Exact, Shown: the messages.
+-- What reducing is handed: a table without variables, the classes of its cells, the built marks; and what the messages have to do with them.
+-- LowParts, LowClasses, Solid, Given: the table and its classes; Exact, Shown: the messages.
 use mathlib.Core.Path.{_≡_}
 use mathlib.Core.Logic.{_↔_}
 use mathlib.Core.List.{List}
 use Prim.Native.Nat.{ℕ, _≤_, _<_}
-use lib.ListN.{getD}
 use Rattle.model.specs.Message.{Message, Built}
-use Rattle.model.specs.Case.{Table, Run, Ground, Heard}
-use Rattle.theory.specs.Cells.{Rows, classAt, On}
+use Rattle.model.specs.Case.{Cell, VA, Table, Run, Part, Ground, Heard}
+use Rattle.model.specs.Stored.{tableIn}
+use Rattle.theory.specs.Cells.{TableWords, classAt, On}
+use Rattle.knowledge.specs.Knowledge.{ClassRow}
 
--- The class array of n cells: the lowest cell of a class stands for it.
-pub record Classed (n : ℕ) (rep : List ℕ) : Type 0 where
-  pub few : (c : ℕ) → getD rep c 0 ≤ 128
-  pub lowest : (c : ℕ) → c < n → classAt rep c ≤ c
-  pub idem : (c : ℕ) → classAt rep (classAt rep c) ≡ classAt rep c
+-- The parts of the cell k are among the cells 0 to 128.
+abbrev pub LowParts : Cell → Type 0
+LowParts k = (d : ℕ) → Part k d → d ≤ 128
+
+-- So are the cells that stand for the classes.
+abbrev pub LowClasses : List ℕ → Type 0
+LowClasses rep = (c : ℕ) → classAt rep c ≤ 128
 
 -- No cell is a variable.
 abbrev pub Solid : List ℕ → Type 0
-Solid kinds = (c : ℕ) → getD kinds c 0 ≡ 1 → ⊥
+Solid words = (c : ℕ) → tableIn words c ≡ VA → ⊥
 
--- What reducing is handed.
-pub record Given (n : ℕ) (kinds firsts seconds rep : List ℕ) : Type 0 where
-  pub rows : Rows n kinds firsts seconds
-  pub classes : Classed n rep
-  pub solid : Solid kinds
+-- What reducing is handed: the lowest cell of a class stands for it.
+pub record Given (n : ℕ) (words rep : List ℕ) : Type 0 where
+  pub rows : TableWords n words
+  pub classes : ClassRow n rep
+  pub lowest : (c : ℕ) → c < n → classAt rep c ≤ c
+  pub solid : Solid words
 
 -- Cells are of one class exactly if they show one message.
 abbrev pub Exact : List ℕ → (ℕ → Message) → Type 0

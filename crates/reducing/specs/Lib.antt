@@ -3,5 +3,4 @@ pub mod Given
 pub mod Bare
 pub mod Order
 pub mod Plan
-pub mod Bytes
 pub mod Promise

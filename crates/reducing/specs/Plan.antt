@@ -1,4 +1,4 @@
--- The plan of the reduced file: its rows in the new numbers, and marks on the cells that it learns.
+-- The plan of the reduced file: its cells in the new numbers, and marks on the cells that it learns.
 -- upTo, marked, planned: the file that a plan stands for; Sized: what every plan keeps; ReducedFile, Plans, PlansRun: the promise; emptyPlan, putRow, Laid: how it is laid out.
 use mathlib.Core.Path.{_≡_}
 use mathlib.Core.Logic.{_↔_}
@@ -8,11 +8,11 @@ use Prim.Native.Nat.{ℕ, zero, suc, _+_, _≤_, _<_}
 use lib.Dec.{eqb}
 use lib.ListN.{length, getD, set, replicate}
 use Rattle.model.specs.Message.{Message, Built}
-use Rattle.model.specs.Case.{File, LN, Table, tableOf, Run, Heard, Ground}
+use Rattle.model.specs.Case.{File, VA, LN, Table, tableOf, Run, Heard, Ground}
 use Rattle.model.specs.Reduce.{Rest, Reduces}
-use Rattle.model.specs.Stored.{tableAt}
+use Rattle.model.specs.Stored.{cellIn, tableIn}
 use Rattle.reducing.specs.Given.{Shown}
-use Rattle.reducing.specs.Order.{numberAt, newFirst, newSecond}
+use Rattle.reducing.specs.Order.{numberAt, placed}
 use Rattle.reducing.specs.declared.Plan.{Plan}
 
 -- The first n values of f.
@@ -31,13 +31,12 @@ marked marks (suc n) = marked marks n ++ cond (eqb (getD marks n 0) 1) (n ∷ []
 
 -- The file that a plan stands for.
 abbrev pub planned : Plan → File
-planned p = record { cells = upTo (tableAt (p .kind) (p .first) (p .second)) (p .cells); events = map LN (marked (p .learnt) (p .cells)) }
+planned p = record { cells = upTo (tableIn (p .table)) (p .cells); events = map LN (marked (p .learnt) (p .cells)) }
 
 -- What every plan keeps: at most 128 cells, none a variable, and the number of its events.
 pub record Sized (p : Plan) : Type 0 where
   pub few : p .cells ≤ 128
-  pub known : (j : ℕ) → j < p .cells → getD (p .kind) j 0 ≤ 4
-  pub solid : (j : ℕ) → j < p .cells → getD (p .kind) j 0 ≡ 1 → ⊥
+  pub solid : (j : ℕ) → j < p .cells → tableIn (p .table) j ≡ VA → ⊥
   pub counts : p .events ≡ length (marked (p .learnt) (p .cells))
 
 -- The file g is the reduced file of the learnt messages K.
@@ -54,29 +53,23 @@ PlansRun T ev p = (m : ℕ → Message) → Ground T m → ReducedFile (Heard ev
 
 -- The plan of the empty file.
 abbrev pub emptyPlan : Plan
-emptyPlan = record { kind = replicate 128 0; first = replicate 128 0; second = replicate 128 0; learnt = replicate 128 0; cells = 0; events = 0 }
+emptyPlan = record { table = replicate 128 0; learnt = replicate 128 0; cells = 0; events = 0 }
 
--- The plan with one more row, learnt if b is a mark.
-abbrev pub putRow : Plan → ℕ → ℕ → ℕ → ℕ → Plan
-putRow p k x y b = record {
-  kind = set (p .kind) (p .cells) k;
-  first = set (p .first) (p .cells) x;
-  second = set (p .second) (p .cells) y;
+-- The plan with one more cell, given by its word, learnt if b is a mark.
+abbrev pub putRow : Plan → ℕ → ℕ → Plan
+putRow p w b = record {
+  table = set (p .table) (p .cells) w;
   learnt = set (p .learnt) (p .cells) b;
   cells = p .cells + 1;
   events = p .events + tally b;
 }
 
--- The first i rows are those of the cells old 0, old 1, .. in the new numbers, learnt where these are bare.
-pub record Laid (kinds firsts seconds rep old new bare : List ℕ) (i : ℕ) (p : Plan) : Type 0 where
+-- The first i cells are the cells old 0, old 1, .. in the new numbers, learnt where these are bare.
+pub record Laid (words rep old new bare : List ℕ) (i : ℕ) (p : Plan) : Type 0 where
   pub cells : p .cells ≡ i
-  pub kind-size : length (p .kind) ≡ 128
-  pub first-size : length (p .first) ≡ 128
-  pub second-size : length (p .second) ≡ 128
+  pub table-size : length (p .table) ≡ 128
   pub learnt-size : length (p .learnt) ≡ 128
-  pub kinds-are : (j : ℕ) → j < i → getD (p .kind) j 0 ≡ getD kinds (getD old j 0) 0
-  pub firsts-are : (j : ℕ) → j < i → getD (p .first) j 0 ≡ newFirst (numberAt rep new) (getD kinds (getD old j 0) 0) (getD firsts (getD old j 0) 0)
-  pub seconds-are : (j : ℕ) → j < i → getD (p .second) j 0 ≡ newSecond (numberAt rep new) (getD kinds (getD old j 0) 0) (getD seconds (getD old j 0) 0)
+  pub cells-are : (j : ℕ) → j < i → cellIn (getD (p .table) j 0) ≡ placed (numberAt rep new) (tableIn words (getD old j 0))
   pub marks-are : (j : ℕ) → j < i → getD (p .learnt) j 0 ≡ getD bare (getD old j 0) 0
   pub counts : p .events ≡ length (marked (p .learnt) i)
   pub below : p .events ≤ i

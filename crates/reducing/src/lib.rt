@@ -2,18 +2,20 @@
 mod kept; // the bare cells and all that stands in them
 mod height; // heights
 mod order; // the new numbers
-mod rows; // the rows in the new numbers
+mod rows; // the cells in the new numbers
 mod write; // bytes
 
 use casefile::Found;
 use casefile::events::Verdict;
+use cells::Run;
+use cells::Table;
 ghost use mathlib.Core.List.{_++_};
 ghost use mathlib.Core.Path.{_≡_};
 ghost use Prim.Native.Nat.{_+_, _*_, _≤_};
 ghost use lib.ListN.{length, drop};
 ghost use Rattle.model.specs.Format.{fileBytes};
-ghost use Rattle.model.specs.Stored.{tableAt, runAt};
-ghost use Rattle.theory.specs.Cells.{Rows, EventRows};
+ghost use Rattle.model.specs.Stored.{tableIn, runIn};
+ghost use Rattle.theory.specs.Cells.{TableWords, RunWords};
 ghost use Rattle.reducing.specs.Given.{Given, Solid};
 ghost use Rattle.reducing.specs.Plan.{planned, Sized, Plans, PlansRun};
 ghost use Rattle.reducing.specs.Promise.{ReducePromise};
@@ -24,58 +26,39 @@ pub enum Reduced {
     Reduced(usize),
 }
 
-// The reduced file before it is written: its cells in rows, as a table lies, marks on those that it learns, and how many cells and events it has.
+// The reduced file before it is written: its table, marks on the cells that it learns, and how many cells and events it has.
 struct Plan {
-    pub kind: [u8; 128],
-    pub first: [u8; 128],
-    pub second: [u8; 128],
+    pub table: Table,
     pub learnt: [u8; 128],
     pub cells: usize,
     pub events: usize,
 }
 
 // The plan of the reduced file of a table without variables, from the classes of its cells and the built marks.
-fn make_plan<'a>(
-    kind: &'a [u8; 128],
-    first: &'a [u8; 128],
-    second: &'a [u8; 128],
-    n: usize,
-    rep: &'a [u8; 129],
-    built: &'a [u8; 129],
-) -> Plan
-    requires { ⌜ Given n (now kind) (now first) (now second) (now rep) ⌝ }
+fn make_plan<'a>(table: &'a Table, n: usize, rep: &'a [u8; 129], built: &'a [u8; 129]) -> Plan
+    requires { ⌜ Given n (now table) (now rep) ⌝ }
     ensures sized { λ r. ⌜ Sized r ⌝ }
-    ensures reduced { λ r. ⌜ Plans (tableAt (now (kind .entry)) (now (first .entry)) (now (second .entry))) (now (rep .entry)) (now (built .entry)) r ⌝ }
+    ensures reduced { λ r. ⌜ Plans (tableIn (now (table .entry))) (now (rep .entry)) (now (built .entry)) r ⌝ }
 {
-    let bares = kept::bare(kind, first, second, n, rep, built);
-    let kept = kept::keep(kind, first, second, n, rep, bares);
-    let high = height::heights(kind, first, second, n);
-    let numbers = order::order(kind, first, second, n, rep, high, kept);
-    let old = numbers.old;
-    let new = numbers.new;
-    rows::lay(kind, first, second, n, rep, old, new, numbers.count, bares)
+    let bares = kept::bare(table, n, rep, built);
+    let kept = kept::keep(table, n, rep, bares);
+    let high = height::heights(table, n);
+    let numbers = order::order(table, n, rep, high, kept);
+    rows::lay(table, rep, numbers, bares)
 }
 
 // The plan of the reduced file of a table without variables and of its events.
-fn plan_run<'a>(
-    kind: &'a [u8; 128],
-    first: &'a [u8; 128],
-    second: &'a [u8; 128],
-    n: usize,
-    asks: &'a [u8; 128],
-    aims: &'a [u8; 128],
-    count: usize,
-) -> Plan
-    requires { ⌜ Rows n (now kind) (now first) (now second) ⌝ }
-    requires { ⌜ Solid (now kind) ⌝ }
-    requires { ⌜ EventRows n (now aims) count ⌝ }
+fn plan_run<'a>(table: &'a Table, n: usize, run: &'a Run, count: usize) -> Plan
+    requires { ⌜ TableWords n (now table) ⌝ }
+    requires { ⌜ Solid (now table) ⌝ }
+    requires { ⌜ RunWords n (now run) count ⌝ }
     ensures sized { λ r. ⌜ Sized r ⌝ }
-    ensures reduced { λ r. ⌜ PlansRun (tableAt (now (kind .entry)) (now (first .entry)) (now (second .entry))) (runAt count (now (asks .entry)) (now (aims .entry))) r ⌝ }
+    ensures reduced { λ r. ⌜ PlansRun (tableIn (now (table .entry))) (runIn count (now (run .entry))) r ⌝ }
 {
-    let k = knowledge::heard::open_heard(kind, first, second, n, asks, aims, count);
+    let k = knowledge::heard::open_heard(table, n, run, count);
     let rep = k.rep;
     let built = k.built;
-    make_plan(kind, first, second, n, &rep, &built)
+    make_plan(table, n, &rep, &built)
 }
 
 // How many bytes the reduced file takes.
@@ -109,16 +92,8 @@ pub fn reduce(file: &[u8], out: &mut [u8]) -> Reduced
         return Reduced::Refused(8, at);
     }
     let t = case.table;
-    let e = case.events;
-    let plan = plan_run(
-        &t.kind,
-        &t.first,
-        &t.second,
-        t.cells,
-        &e.kind,
-        &e.cell,
-        e.count,
-    );
+    let e = case.run;
+    let plan = plan_run(&t.words, t.count, &e.words, e.count);
     let length = needed(plan);
     if out.len() < length {
         return Reduced::Refused(9, length);

@@ -1,11 +1,15 @@
-// The rows of the reduced file.
+// The rows of the reduced file: the words of its cells, and its marks.
 use super::Plan;
-use super::order::new_first;
-use super::order::new_second;
+use super::order::Numbers;
+use super::order::renumbered;
+use cells::Table;
+use cells::cell_at;
+use cells::word_of;
 ghost use mathlib.Core.Path.{_≡_};
 ghost use Prim.Native.Nat.{ℕ, _<_, _≤_};
 ghost use lib.ListN.{getD};
-ghost use Rattle.reducing.specs.Given.{Given};
+ghost use Rattle.model.specs.Stored.{tableIn};
+ghost use Rattle.reducing.specs.Given.{LowParts, LowClasses};
 ghost use Rattle.reducing.specs.Plan.{tally, emptyPlan, putRow, Laid};
 
 // The plan without cells.
@@ -13,9 +17,7 @@ fn empty_plan() -> Plan
     ensures { λ r. ⌜ r ≡ emptyPlan ⌝ }
 {
     Plan {
-        kind: [0; 128],
-        first: [0; 128],
-        second: [0; 128],
+        table: [0; 128],
         learnt: [0; 128],
         cells: 0,
         events: 0,
@@ -32,46 +34,36 @@ fn tally_of(b: u8) -> usize
     0
 }
 
-// The plan with one more row, learnt if b is a mark.
-fn put_row(plan: Plan, kind: u8, first: u8, second: u8, b: u8) -> Plan
+// The plan with one more cell, learnt if b is a mark.
+fn put_row(plan: Plan, word: u32, b: u8) -> Plan
     requires { ⌜ (plan .cells < 128) × (plan .events ≤ plan .cells) ⌝ }
-    ensures { λ r. ⌜ r ≡ putRow plan kind first second b ⌝ }
+    ensures { λ r. ⌜ r ≡ putRow plan word b ⌝ }
 {
     let mut p = plan;
     let at = plan.cells;
     let more = tally_of(b);
-    p.kind[at] = kind;
-    p.first[at] = first;
-    p.second[at] = second;
+    p.table[at] = word;
     p.learnt[at] = b;
     p.cells = at + 1;
     p.events = plan.events + more;
     p
 }
 
-// The rows of the numbered cells, in the new numbers.
-pub fn lay<'a>(
-    kind: &'a [u8; 128],
-    first: &'a [u8; 128],
-    second: &'a [u8; 128],
-    n: usize,
-    rep: &'a [u8; 129],
-    old: [u8; 128],
-    new: [u8; 129],
-    count: usize,
-    bare: [u8; 129],
-) -> Plan
-    requires { ⌜ Given n (now kind) (now first) (now second) (now rep) × (count ≤ n) × ((j : ℕ) → j < count → getD old j 0 < n) ⌝ }
-    ensures { λ r. ⌜ Laid (now (kind .entry)) (now (first .entry)) (now (second .entry)) (now (rep .entry)) old new bare count r ⌝ }
+// The numbered cells, in the new numbers.
+pub fn lay<'a>(table: &'a Table, rep: &'a [u8; 129], numbers: Numbers, bare: [u8; 129]) -> Plan
+    requires { ⌜ LowClasses (now rep) × ((c : ℕ) → LowParts (tableIn (now table) c)) ⌝ }
+    requires { ⌜ (numbers .count ≤ 128) × ((j : ℕ) → j < numbers .count → getD (numbers .old) j 0 < 128) ⌝ }
+    ensures { λ r. ⌜ Laid (now (table .entry)) (now (rep .entry)) (numbers .old) (numbers .new) bare (numbers .count) r ⌝ }
 {
+    let old = numbers.old;
+    let new = numbers.new;
+    let count = numbers.count;
     let mut p = empty_plan();
     let mut i: usize = 0;
     while i < count {
         let c = old[i] as usize;
-        let k = kind[c];
-        let a = new_first(k, first[c], rep, &new);
-        let b = new_second(k, second[c], rep, &new);
-        p = put_row(p, k, a, b, bare[c]);
+        let k = renumbered(cell_at(table, c), rep, &new);
+        p = put_row(p, word_of(k), bare[c]);
         i += 1;
     }
     p

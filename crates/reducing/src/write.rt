@@ -1,5 +1,7 @@
 // The bytes of the reduced file.
 use super::Plan;
+use cells::Cell;
+use cells::cell_at;
 ghost use mathlib.Core.List.{[], _∷_, _++_};
 ghost use mathlib.Core.Path.{_≡_};
 ghost use Prim.Native.Nat.{_+_, _*_, _≤_};
@@ -7,8 +9,7 @@ ghost use lib.ListN.{length, getD};
 ghost use lib.Seq.{sets};
 ghost use Rattle.model.specs.Case.{LN};
 ghost use Rattle.model.specs.Format.{Kind, mark, cellBytes, eventBytes, joined};
-ghost use Rattle.model.specs.Stored.{cellAt};
-ghost use Rattle.reducing.specs.Bytes.{kindMark};
+ghost use Rattle.cells.specs.Cells.{asCell};
 ghost use Rattle.reducing.specs.Plan.{planned, Sized};
 
 // The two bytes of a mark.
@@ -20,34 +21,28 @@ fn put_mark(out: &mut [u8], at: usize, text: &[u8; 2])
     out[at + 1] = text[1];
 }
 
-// The mark of a kind.
-fn put_kind(out: &mut [u8], at: usize, kind: u8)
-    requires { ⌜ (at + 2 ≤ length (now out)) × (kind ≡ 1 → ⊥) ⌝ }
-    ensures { λ _. ⌜ now (out .exit) ≡ sets (now (out .entry)) at (kindMark kind) ⌝ }
+// A mark, and two field bytes.
+fn put_fields(out: &mut [u8], at: usize, text: &[u8; 2], a: u8, b: u8)
+    requires { ⌜ at + 4 ≤ length (now out) ⌝ }
+    ensures { λ _. ⌜ now (out .exit) ≡ sets (now (out .entry)) at (getD (now (text .entry)) 0 0 ∷ getD (now (text .entry)) 1 0 ∷ a ∷ b ∷ []) ⌝ }
 {
-    if kind == 0 {
-        put_mark(out, at, b"AT");
-        return;
-    }
-    if kind == 2 {
-        put_mark(out, at, b"PR");
-        return;
-    }
-    if kind == 3 {
-        put_mark(out, at, b"SE");
-        return;
-    }
-    put_mark(out, at, b"AP");
+    put_mark(out, at, text);
+    out[at + 2] = a;
+    out[at + 3] = b;
 }
 
 // The record of a cell.
-fn put_cell(out: &mut [u8], at: usize, kind: u8, first: u8, second: u8)
-    requires { ⌜ (at + 4 ≤ length (now out)) × (kind ≡ 1 → ⊥) ⌝ }
-    ensures { λ _. ⌜ now (out .exit) ≡ sets (now (out .entry)) at (cellBytes (cellAt kind first second)) ⌝ }
+fn put_cell(out: &mut [u8], at: usize, k: Cell)
+    requires { ⌜ at + 4 ≤ length (now out) ⌝ }
+    ensures { λ _. ⌜ now (out .exit) ≡ sets (now (out .entry)) at (cellBytes (asCell k)) ⌝ }
 {
-    put_kind(out, at, kind);
-    out[at + 2] = first;
-    out[at + 3] = second;
+    match k {
+        Cell::Atom(n) => put_fields(out, at, b"AT", (n / 256) as u8, (n % 256) as u8),
+        Cell::Variable => put_mark(out, at, b"VA"),
+        Cell::Pair(l, r) => put_fields(out, at, b"PR", l, r),
+        Cell::Seal(b, s) => put_fields(out, at, b"SE", b, s),
+        Cell::Apply(f, a) => put_fields(out, at, b"AP", f, a),
+    }
 }
 
 // The record of an event: the cell c is learnt.
@@ -64,10 +59,11 @@ pub fn write_cells(plan: Plan, out: &mut [u8])
     requires { ⌜ Sized plan × (4 * plan .cells ≤ length (now out)) ⌝ }
     ensures { λ _. ⌜ now (out .exit) ≡ sets (now (out .entry)) 0 (joined cellBytes (planned plan .cells)) ⌝ }
 {
+    let table = plan.table;
     let n = plan.cells;
     let mut i: usize = 0;
     while i < n {
-        put_cell(out, 4 * i, plan.kind[i], plan.first[i], plan.second[i]);
+        put_cell(out, 4 * i, cell_at(&table, i));
         i += 1;
     }
 }

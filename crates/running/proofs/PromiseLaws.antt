@@ -11,9 +11,9 @@ use lib.ListN.{length, getD, take, drop, set}
 use lib.Seq.{take-suc, drop-cons, set-at, length-take-le}
 use Rattle.model.specs.Case.{File, WellFormed, tableOf, runOf}
 use Rattle.model.specs.Format.{readFile, Reading, refused, accepted}
-use Rattle.model.specs.Stored.{tableAt, runAt}
+use Rattle.model.specs.Stored.{tableIn, runIn}
 use Rattle.model.specs.Replies.{RightListed, NoneRight, laid, SameButList}
-use Rattle.model.proofs.Accepted.{accepted-file}
+use Rattle.model.proofs.Accepted.{Bytes, accepted-file}
 use Rattle.model.proofs.Read.{clash, list-values}
 use Rattle.model.proofs.Settled.{NoOrList, refusals-alike, answers-alike}
 use Rattle.solving.specs.declared.search.Solution.{Solution}
@@ -35,27 +35,27 @@ laid-next list before i h h′ =
 pub laid-all : (list before : List ℕ) (n : ℕ) → n ≤ length list → take n list ++ drop n before ≡ laid (take n list) before
 laid-all list before n h = ap (λ (k : ℕ). take n list ++ drop k before) (sym (length-take-le n list h))
 
--- ---- what the search says of the rows that were read, said of the file
+-- ---- what the search says of the words that were read, said of the file
 
-module _ {file : List ℕ} {r : Case} (w : CaseFile file r) where
-  pub case-formed : WellFormed (tableAt (r .table .kind) (r .table .first) (r .table .second)) (runAt (r .events .count) (r .events .kind) (r .events .cell))
-  case-formed = subst (λ T. WellFormed T (runAt (r .events .count) (r .events .kind) (r .events .cell))) (sym (case-table w))
+module _ {file : List ℕ} {r : Case} (w : CaseFile file r) (b : Bytes file) where
+  pub case-formed : WellFormed (tableIn (r .table .words)) (runIn (r .run .count) (r .run .words))
+  case-formed = subst (λ T. WellFormed T (runIn (r .run .count) (r .run .words))) (sym (case-table w b))
       (subst (WellFormed (tableOf (w .f .cells))) (sym (case-run w)) (accepted-file file (w .f) (w .read) .formed))
 
   pub case-solved : (s : Solution) →
-      Solves (tableAt (r .table .kind) (r .table .first) (r .table .second)) (r .table .cells) (runAt (r .events .count) (r .events .kind) (r .events .cell)) s →
+      Solves (tableIn (r .table .words)) (r .table .count) (runIn (r .run .count) (r .run .words)) s →
       Solves (tableOf (w .f .cells)) (length (w .f .cells)) (runOf (w .f .events)) s
   case-solved s h =
       subst (λ n. Solves (tableOf (w .f .cells)) n (runOf (w .f .events)) s) (case-count w)
-      (subst (λ T. Solves T (r .table .cells) (runOf (w .f .events)) s) (case-table w)
-      (subst (λ ev. Solves (tableAt (r .table .kind) (r .table .first) (r .table .second)) (r .table .cells) ev s) (case-run w) h))
+      (subst (λ T. Solves T (r .table .count) (runOf (w .f .events)) s) (case-table w b)
+      (subst (λ ev. Solves (tableIn (r .table .words)) (r .table .count) ev s) (case-run w) h))
 
 -- ---- the promise
 
 module _ (file before : List ℕ) where
   pub promise-refused : (number place : ℕ) → readFile file ≡ refused number place → RunPromise file before (Refused number place) before
   promise-refused number place r = record {
-    unread = λ n p e. (let z : refused number place ≡ refused n p = sym r ∙ e in cc, refl);
+    refused = λ n p e. (let z : refused number place ≡ refused n p = sym r ∙ e in cc, refl);
     short = λ f e. clash (cc);
     replied = λ f q. (let e = q .read in clash (cc));
     no = λ f q. (let e = q .read in clash (cc));
@@ -72,7 +72,7 @@ module _ (file before : List ℕ) where
 
     pub promise-short : length before < length (f .cells) → RunPromise file before (Refused 9 (length (f .cells))) before
     promise-short s = record {
-      unread = λ n p e. clash (cc);
+      refused = λ n p e. clash (cc);
       short = λ g e _. (ap (Refused 9) (one-length e), refl);
       replied = λ g q. absurd (omega (arith, one-length (q .read), q .room));
       no = λ g q. absurd (omega (arith, one-length (q .read), q .room));
@@ -82,7 +82,7 @@ module _ (file before : List ℕ) where
     module _ (room : length (f .cells) ≤ length before) (s : Solution) (w : Solves (tableOf (f .cells)) (length (f .cells)) (runOf (f .events)) s) where
       pub promise-no : s .yes ≡ false → RunPromise file before No before
       promise-no e = record {
-        unread = λ n p i. clash (cc);
+        refused = λ n p i. clash (cc);
         short = λ g i h. absurd (omega (arith, one-length i));
         replied = λ g q. inl refl;
         no = λ g q _. (subst NoneRight (one (q .read)) (w .none e), refl);
@@ -91,34 +91,34 @@ module _ (file before : List ℕ) where
 
       pub promise-yes : s .yes ≡ true → (after : List ℕ) → after ≡ laid (take (length (f .cells)) (s .list)) before → RunPromise file before (Yes (length (f .cells))) after
       promise-yes e after k = record {
-        unread = λ n p i. clash (cc);
+        refused = λ n p i. clash (cc);
         short = λ g i h. absurd (omega (arith, one-length i));
         replied = λ g q. inr (ap Yes (one-length (q .read)));
         no = λ g q i. clash (cc);
         yes = λ g q _. (take (length (f .cells)) (s .list), subst (λ g. RightListed g (take (length (f .cells)) (s .list))) (one (q .read)) (w .form e, w .right e), k);
       }
 
--- ---- the promise, of the rows that were read
+-- ---- the promise, of the words that were read
 
 module _ {file : List ℕ} {r : Case} (w : CaseFile file r) (before : List ℕ) where
-  pub case-few : r .table .cells ≤ 128
+  pub case-few : r .table .count ≤ 128
   case-few = omega (arith, case-count w, accepted-file file (w .f) (w .read) .fewCells)
 
-  pub reply-short : length before < r .table .cells → RunPromise file before (Refused 9 (r .table .cells)) before
+  pub reply-short : length before < r .table .count → RunPromise file before (Refused 9 (r .table .count)) before
   reply-short = subst (λ n. length before < n → RunPromise file before (Refused 9 n) before) (sym (case-count w)) (promise-short file before (w .f) (w .read))
 
-  module _ (room : r .table .cells ≤ length before) (s : Solution)
-      (h : Solves (tableAt (r .table .kind) (r .table .first) (r .table .second)) (r .table .cells) (runAt (r .events .count) (r .events .kind) (r .events .cell)) s) where
+  module _ (b : Bytes file) (room : r .table .count ≤ length before) (s : Solution)
+      (h : Solves (tableIn (r .table .words)) (r .table .count) (runIn (r .run .count) (r .run .words)) s) where
     enough : length (w .f .cells) ≤ length before
     enough = omega (arith, case-count w)
 
     pub reply-no : s .yes ≡ false → RunPromise file before No before
-    reply-no = promise-no file before (w .f) (w .read) enough s (case-solved w s h)
+    reply-no = promise-no file before (w .f) (w .read) enough s (case-solved w b s h)
 
-    pub reply-yes : s .yes ≡ true → (after : List ℕ) → after ≡ laid (take (r .table .cells) (s .list)) before → RunPromise file before (Yes (r .table .cells)) after
+    pub reply-yes : s .yes ≡ true → (after : List ℕ) → after ≡ laid (take (r .table .count) (s .list)) before → RunPromise file before (Yes (r .table .count)) after
     reply-yes e after =
         subst (λ n. after ≡ laid (take n (s .list)) before → RunPromise file before (Yes n) after) (sym (case-count w))
-        (promise-yes file before (w .f) (w .read) enough s (case-solved w s h) e after)
+        (promise-yes file before (w .f) (w .read) enough s (case-solved w b s h) e after)
 
 -- ---- the promise settles the reply
 
@@ -135,7 +135,7 @@ module _ (file before : List ℕ) (r r′ : Solved) (after after′ : List ℕ) 
       replies f q p = record { replied = p .replied f q; never = p .no f q; listed = p .yes f q }
 
       go : (x : Reading) → readFile file ≡ x → (r ≡ r′) × SameButList RightListed file before after after′
-      go (refused n at) e = refusals-alike RightListed file before (p .unread n at e) (p′ .unread n at e)
+      go (refused n at) e = refusals-alike RightListed file before (p .refused n at e) (p′ .refused n at e)
       go (accepted f) e = elim (decLt (length before) (length (f .cells))) [
         | yes s ↦ refusals-alike RightListed file before (p .short f e s) (p′ .short f e s)
         | no s ↦

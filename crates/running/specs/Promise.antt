@@ -6,8 +6,8 @@ use mathlib.Core.Logic.{_⊎_}
 use Prim.Native.Nat.{ℕ, _≤_, _<_}
 use lib.ListN.{length}
 use Rattle.model.specs.Case.{File}
-use Rattle.model.specs.Format.{readFile, refused, accepted}
-use Rattle.model.specs.Replies.{RightListed, NoneRight, laid}
+use Rattle.model.specs.Format.{readFile, accepted}
+use Rattle.model.specs.Replies.{RightListed, NoneRight, laid, Untouched, FileRefused}
 use Rattle.running.specs.declared.Solved.{Solved}
 use Rattle.running.specs.declared.Solved.the-variants.{Refused, No, Yes}
 
@@ -19,9 +19,9 @@ pub record Answered (file before : List ℕ) (f : File) : Type 0 where
 -- The reply to the run of a file, and the buffer before and after.
 pub record RunPromise (file before : List ℕ) (reply : Solved) (after : List ℕ) : Type 0 where
   -- the file's own refusals come first, and leave the buffer as it was
-  pub unread : (number place : ℕ) → readFile file ≡ refused number place → (reply ≡ Refused number place) × (after ≡ before)
+  pub refused : FileRefused file λ n p. Untouched (Refused n p) reply before after
   -- then 9, with the cell count, if the buffer is shorter; it comes before "no"
-  pub short : (f : File) → readFile file ≡ accepted f → length before < length (f .cells) → (reply ≡ Refused 9 (length (f .cells))) × (after ≡ before)
+  pub short : (f : File) → readFile file ≡ accepted f → length before < length (f .cells) → Untouched (Refused 9 (length (f .cells))) reply before after
   -- then the reply is "no" or "yes" with a list of one byte for each cell
   pub replied : (f : File) → Answered file before f → (reply ≡ No) ⊎ (reply ≡ Yes (length (f .cells)))
   -- "no": no values of the variables are right, and nothing is written

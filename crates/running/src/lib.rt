@@ -35,12 +35,12 @@ pub fn run(file: &[u8], out: &mut [u8]) -> Solved
         return Solved::Refused(number, place);
     }
     let t = read.table;
-    let e = read.events;
-    let n = t.cells;
+    let e = read.run;
+    let n = t.count;
     if out.len() < n {
         return Solved::Refused(9, n);
     }
-    let found = solving::search::solve(&t.kind, &t.first, &t.second, n, &e.kind, &e.cell, e.count);
+    let found = solving::search::solve(&t.words, n, &e.words, e.count);
     if !found.yes {
         return Solved::No;
     }

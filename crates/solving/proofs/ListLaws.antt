@@ -10,10 +10,9 @@ use lib.Seq.{getD-take, getD-set-same, getD-set-other, length-take-le}
 use borrow.Author.Count.{below-more}
 use Rattle.model.specs.Message.{Message, atom}
 use Rattle.model.specs.Case.{VA, MK, Table, Run, look}
-use Rattle.model.specs.Stored.{tableAt}
 use Rattle.model.specs.Values.{cellOf, Entry, Form, RightList}
 use Rattle.model.proofs.Steps.{Comp}
-use Rattle.model.proofs.Stored.{kind-var, var-kind, cell-own, cell-other}
+use Rattle.model.proofs.Stored.{cell-own, cell-other}
 use Rattle.theory.specs.Cells.{Formed, Grounds, classAt}
 use Rattle.theory.specs.Level.{Mark, built}
 use Rattle.theory.specs.Search.{State}
@@ -21,15 +20,6 @@ use Rattle.theory.proofs.Answers.{τ-reads}
 use Rattle.theory.proofs.Step.{reply-yes}
 use Rattle.knowledge.specs.Knowledge.{ClassRow}
 use Rattle.solving.specs.Listing.{Valued, Entered, Listed}
-
--- ---- kinds
-
-module _ (kinds firsts seconds : List ℕ) (c : ℕ) where
-  pub kind-free : getD kinds c 0 ≡ 1 → tableAt kinds firsts seconds c ≡ VA
-  kind-free = kind-var (getD kinds c 0) (getD firsts c 0) (getD seconds c 0)
-
-  pub kind-solid : (getD kinds c 0 ≡ 1 → ⊥) → tableAt kinds firsts seconds c ≡ VA → ⊥
-  kind-solid n e = n (var-kind (getD kinds c 0) (getD firsts c 0) (getD seconds c 0) e)
 
 -- ---- the loop
 

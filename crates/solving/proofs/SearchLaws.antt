@@ -9,8 +9,8 @@ use native.Mathlib.Omega.{arith}
 use native.Mathlib.Decide.{decLt}
 use Rattle.model.specs.Message.{atom}
 use Rattle.model.specs.Case.{MK, Table, Run, WellFormed}
-use Rattle.model.specs.Stored.{tableAt}
-use Rattle.theory.specs.Cells.{Rows, classAt, On}
+use Rattle.model.specs.Stored.{tableIn}
+use Rattle.theory.specs.Cells.{TableWords, classAt, On}
 use Rattle.theory.specs.Level.{Kin, Mark, built}
 use Rattle.theory.specs.Search.{None, NoneWith}
 use Rattle.theory.proofs.Rows.{rows-formed, rows-var}
@@ -27,7 +27,7 @@ use Rattle.solving.specs.Plans.{Plans}
 use Rattle.solving.specs.Searches.{Searched, Solves}
 use Rattle.solving.specs.declared.plan.Choice.{Choice}
 use Rattle.solving.specs.declared.search.Child.{Child}
-use Rattle.solving.specs.declared.search.Found.{Found}
+use Rattle.solving.specs.declared.search.Outcome.{Outcome}
 use Rattle.solving.specs.declared.search.Solution.{Solution}
 use Rattle.solving.proofs.ListLaws.{list-form, list-right}
 
@@ -75,18 +75,18 @@ module _ (T : Table) (n : ℕ) (ev : Run) (rep want bare : List ℕ) where
     }))
   ]
 
-module _ {n : ℕ} {K F S rep : List ℕ} (w : Rows n K F S) (ev : Run) (s : Solved n (tableAt K F S) rep) where
+module _ {n : ℕ} {words rep : List ℕ} (w : TableWords n words) (ev : Run) (s : Solved n (tableIn words) rep) where
   abbrev T : Table
-  T = tableAt K F S
+  T = tableIn words
 
-  pub searched-yes : (pl : Choice) (f : Found) → Plans T ev rep pl → pl .ready ≡ true → f .yes ≡ true → f .rep ≡ rep → Searched T n ev rep f
+  pub searched-yes : (pl : Choice) (f : Outcome) → Plans T ev rep pl → pl .ready ≡ true → f .yes ≡ true → f .rep ≡ rep → Searched T n ev rep f
   searched-yes pl f p e y i = record {
     solved = λ _. subst (Solved n T) (sym i) s;
     ready = λ _. subst (λ r. (q t : ℕ) → ev q ≡ some (MK t) → Mark T (classAt r) ev q built t) (sym i) (p .ready e);
     none = λ z. absurd (true≢false (sym y ∙ z));
   }
 
-  pub searched-no : WellFormed T ev → (pl : Choice) (f : Found) → Plans T ev rep pl → pl .ready ≡ false → f .yes ≡ false →
+  pub searched-no : WellFormed T ev → (pl : Choice) (f : Outcome) → Plans T ev rep pl → pl .ready ≡ false → f .yes ≡ false →
       ((i j : ℕ) → i < n → j < n → Pairs T rep (pl .want) (pl .bare) i j → NoneWith T ev (classAt rep) i j) → Searched T n ev rep f
   searched-no wf pl f p e y all = record {
     solved = λ z. absurd (true≢false (sym z ∙ y));
@@ -96,14 +96,14 @@ module _ {n : ℕ} {K F S rep : List ℕ} (w : Rows n K F S) (ev : Run) (s : Sol
         (λ c d ec ed x z k a. tried-pairs T n ev rep (pl .want) (pl .bare) all c d (kin-below w c d k .0) (kin-below w c d k .1) x z k (λ i. a (sym ec ∙ (i ∙ ed))));
   }
 
-pub searched-child : (T : Table) (n : ℕ) (ev : Run) (rep next : List ℕ) (f : Found) → Searched T n ev next f → f .yes ≡ true → Searched T n ev rep f
+pub searched-child : (T : Table) (n : ℕ) (ev : Run) (rep next : List ℕ) (f : Outcome) → Searched T n ev next f → f .yes ≡ true → Searched T n ev rep f
 searched-child T n ev rep next f x y = record { solved = x .solved; ready = x .ready; none = λ z. absurd (true≢false (sym y ∙ z)) }
 
 -- ---- the reply
 
-module _ {n : ℕ} {K F S : List ℕ} (w : Rows n K F S) (ev : Run) where
-  pub solves : (rep : List ℕ) (f : Found) (r : Solution) → Start n (tableAt K F S) rep → Searched (tableAt K F S) n ev rep f → Listed (tableAt K F S) n (f .rep) (r .list) n → r .yes ≡ f .yes →
-      Solves (tableAt K F S) n ev r
+module _ {n : ℕ} {words : List ℕ} (w : TableWords n words) (ev : Run) where
+  pub solves : (rep : List ℕ) (f : Outcome) (r : Solution) → Start n (tableIn words) rep → Searched (tableIn words) n ev rep f → Listed (tableIn words) n (f .rep) (r .list) n → r .yes ≡ f .yes →
+      Solves (tableIn words) n ev r
   solves rep f r st x l e = record {
     form = λ y. list-form (w .few) l;
     right = λ y.
@@ -114,4 +114,4 @@ module _ {n : ℕ} {K F S : List ℕ} (w : Rows n K F S) (ev : Run) where
   }
     where
       T : Table
-      T = tableAt K F S
+      T = tableIn words

@@ -12,11 +12,11 @@ use Rattle.theory.specs.Cells.{classAt}
 use Rattle.theory.specs.Level.{Mark, built}
 use Rattle.theory.specs.Search.{None}
 use Rattle.classes.specs.Kept.{Solved}
-use Rattle.solving.specs.declared.search.Found.{Found}
+use Rattle.solving.specs.declared.search.Outcome.{Outcome}
 use Rattle.solving.specs.declared.search.Solution.{Solution}
 
 -- Yes: classes at which everything that is to be made is built. No: no right values satisfy the classes rep.
-pub record Searched (T : Table) (n : ℕ) (ev : Run) (rep : List ℕ) (r : Found) : Type 0 where
+pub record Searched (T : Table) (n : ℕ) (ev : Run) (rep : List ℕ) (r : Outcome) : Type 0 where
   pub solved : r .yes ≡ true → Solved n T (r .rep)
   pub ready : r .yes ≡ true → (p t : ℕ) → ev p ≡ some (MK t) → Mark T (classAt (r .rep)) ev p built t
   pub none : r .yes ≡ false → None T ev (classAt rep)

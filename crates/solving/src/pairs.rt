@@ -1,9 +1,10 @@
 // Pairs of cells that may have to be made equal.
-use granting::kin;
-use knowledge::class_of;
-ghost use mathlib.Core.List.{List};
-ghost use Prim.Native.Nat.{ℕ, _≤_, _<_};
-ghost use Rattle.model.specs.Stored.{tableAt};
+use cells::Table;
+use cells::kin_at;
+use classes::class_of;
+use granting::Place;
+ghost use Prim.Native.Nat.{_≤_, _<_};
+ghost use Rattle.model.specs.Stored.{tableIn};
 ghost use Rattle.theory.specs.Cells.{On};
 ghost use Rattle.theory.specs.Decides.{Decides};
 ghost use Rattle.solving.specs.Pairs.{Mirrored, Pairs, place, NextPair};
@@ -31,8 +32,7 @@ fn mirrored<'a>(want: &'a [u8; 129], bare: &'a [u8; 129], c: usize, d: usize) ->
 
 // Is c a wanted cell that is to be made equal to the bare cell d?
 pub fn pairing<'a>(
-    kind: &'a [u8; 128],
-    first: &'a [u8; 128],
+    table: &'a Table,
     rep: &'a [u8; 129],
     want: &'a [u8; 129],
     bare: &'a [u8; 129],
@@ -41,8 +41,7 @@ pub fn pairing<'a>(
 ) -> bool
     requires { ⌜ c < 128 ⌝ }
     requires { ⌜ d < 128 ⌝ }
-    ensures { λ r. ⌜ ((seconds : List ℕ) →
-        Decides r (Pairs (tableAt (now (kind .entry)) (now (first .entry)) seconds) (now (rep .entry)) (now (want .entry)) (now (bare .entry)) c d)) ⌝ }
+    ensures { λ r. ⌜ Decides r (Pairs (tableIn (now (table .entry))) (now (rep .entry)) (now (want .entry)) (now (bare .entry)) c d) ⌝ }
 {
     if want[c] != 1 {
         return false;
@@ -56,7 +55,7 @@ pub fn pairing<'a>(
     if mirrored(want, bare, c, d) {
         return false;
     }
-    kin(kind, first, c, d)
+    kin_at(table, c, d)
 }
 
 // Is there more to see in the row of c, from d on?
@@ -70,27 +69,24 @@ fn in_row<'a>(want: &'a [u8; 129], n: usize, c: usize, d: usize) -> bool
     d < n
 }
 
-// The next pair from c and d on, row by row.
+// The next pair from the place `from` on, row by row.
 pub fn next_pair<'a>(
-    kind: &'a [u8; 128],
-    first: &'a [u8; 128],
+    table: &'a Table,
     n: usize,
     rep: &'a [u8; 129],
     want: &'a [u8; 129],
     bare: &'a [u8; 129],
-    c0: usize,
-    d0: usize,
+    from: Place,
 ) -> Next
     requires { ⌜ n ≤ 128 ⌝ }
-    requires { ⌜ d0 ≤ 128 ⌝ }
-    ensures { λ r. ⌜ ((seconds : List ℕ) →
-        NextPair (tableAt (now (kind .entry)) (now (first .entry)) seconds) n (now (rep .entry)) (now (want .entry)) (now (bare .entry)) (place c0 d0) r) ⌝ }
+    requires { ⌜ from .d ≤ 128 ⌝ }
+    ensures { λ r. ⌜ NextPair (tableIn (now (table .entry))) n (now (rep .entry)) (now (want .entry)) (now (bare .entry)) (place (from .c) (from .d)) r ⌝ }
 {
-    let mut c = c0;
-    let mut d = d0;
+    let mut c = from.c;
+    let mut d = from.d;
     while c < n {
         if in_row(want, n, c, d) {
-            if pairing(kind, first, rep, want, bare, c, d) {
+            if pairing(table, rep, want, bare, c, d) {
                 return Next::Pair(c, d);
             }
             d += 1;

@@ -1,12 +1,18 @@
 // The choice of what is tried at one step: a position where what is to be made is not built, and the cells that may have to be made equal there.
 use super::pairs::pairing;
+use cells::Event;
+use cells::Run;
+use cells::Table;
+use cells::aim_of;
+use cells::event_at;
 use classes::clash::clash;
+use classes::class_of;
 use granting::grants::Grant;
 use granting::grants::granted;
 use granting::line::line;
 use knowledge::Marks;
 use knowledge::cell;
-use knowledge::class_of;
+use knowledge::has;
 use knowledge::learn;
 use knowledge::open_known;
 use knowledge::own_marks;
@@ -15,21 +21,32 @@ use wants::sets::wanted;
 ghost use mathlib.Core.Path.{_≡_};
 ghost use mathlib.Core.Bool.{true, false};
 ghost use Prim.Native.Nat.{_≤_, _<_, _+_};
-ghost use Rattle.model.specs.Stored.{tableAt, runAt};
-ghost use Rattle.theory.specs.Cells.{Rows, EventRows, classAt, On};
-ghost use Rattle.theory.specs.Decides.{Decides};
+ghost use Rattle.model.specs.Stored.{tableIn, runIn};
+ghost use Rattle.theory.specs.Cells.{TableWords, RunWords};
 ghost use Rattle.classes.specs.Kept.{Kept, Solved};
-ghost use Rattle.knowledge.specs.Knowledge.{ClassRow, Marked};
+ghost use Rattle.knowledge.specs.Knowledge.{ClassRow, MarkRow};
 ghost use Rattle.wants.specs.Starts.{BareTo};
 ghost use Rattle.wants.specs.Sets.{WantedRow};
-ghost use Rattle.granting.specs.Line.{Whole};
-ghost use Rattle.solving.specs.Plans.{Chosen, Better, Reopened, Costing, StageRows, MadeStage, HeardStage, Stepped, Plans};
+ghost use Rattle.granting.specs.Line.{Whole, Lacking};
+ghost use Rattle.solving.specs.Plans.{Chosen, Better, Reopened, Costing, LineChance, StageRows, freshStage, FirstStage, MadeStage, HeardStage, Stepped, Plans};
 
 // Wanted and bare cells, of which pairs are to be tried. How many pairs are live is a guide only.
 struct Trial {
     pub pairs: u8,
     pub want: [u8; 129],
     pub bare: [u8; 129],
+}
+
+// The marks of what is seen and built, and what is granted.
+struct Known {
+    pub marks: Marks,
+    pub grant: Grant,
+}
+
+// What is tried, and what is granted with the costs that were found.
+struct Chance {
+    pub grant: Grant,
+    pub trial: Trial,
 }
 
 // The plan of a step: if ready, nothing is to be tried. The position, the load and the number of live pairs are guides only.
@@ -43,116 +60,93 @@ pub struct Choice {
 }
 
 // What is known before a position: the marks of what is seen and built, what is granted, and the best plan so far.
-// Fresh: nothing was learnt since the marks were found; else only those of what is seen are to be started from.
+// Fresh: nothing was learnt since the marks were found; else only those of what is seen are to be started from. Dead: a guide, how many dead ends the position had.
 struct Stage {
     pub fresh: bool,
+    pub dead: u16,
     pub seen: [u8; 129],
     pub built: [u8; 129],
     pub grant: Grant,
     pub best: Choice,
 }
 
-// A guide: are c and d a pair that does not clash at once?
-fn live_at<'a>(
-    kind: &'a [u8; 128],
-    first: &'a [u8; 128],
-    second: &'a [u8; 128],
-    n: usize,
-    rep: &'a [u8; 129],
-    want: &'a [u8; 129],
-    bare: &'a [u8; 129],
-    c: usize,
-    d: usize,
-) -> bool
-    requires { ⌜ Rows n (now kind) (now first) (now second) ⌝ }
-    requires { ⌜ Kept n (tableAt (now kind) (now first) (now second)) (now rep) ⌝ }
-    requires { ⌜ c < n ⌝ }
-    requires { ⌜ d < n ⌝ }
-{
-    if !pairing(kind, first, rep, want, bare, c, d) {
-        return false;
-    }
-    !clash(kind, first, second, n, rep, c as u8, d as u8, 3)
-}
-
-// A guide: the number of such pairs in the row of c, added to `before`, up to 254.
+// A guide: the number of pairs in the row of c that do not clash at once, up to 254.
 fn live_row<'a>(
-    kind: &'a [u8; 128],
-    first: &'a [u8; 128],
-    second: &'a [u8; 128],
+    table: &'a Table,
     n: usize,
     rep: &'a [u8; 129],
     want: &'a [u8; 129],
     bare: &'a [u8; 129],
     c: usize,
-    before: u8,
 ) -> u8
-    requires { ⌜ Rows n (now kind) (now first) (now second) ⌝ }
-    requires { ⌜ Kept n (tableAt (now kind) (now first) (now second)) (now rep) ⌝ }
+    requires { ⌜ TableWords n (now table) ⌝ }
+    requires { ⌜ Kept n (tableIn (now table)) (now rep) ⌝ }
     requires { ⌜ c < n ⌝ }
 {
-    let mut k = before;
+    let mut k = 0;
     let mut d = 0;
     while d < n {
         if 254 <= k {
             return k;
         }
-        if live_at(kind, first, second, n, rep, want, bare, c, d) {
-            k += 1;
+        if pairing(table, rep, want, bare, c, d) {
+            if !clash(table, n, rep, c as u8, d as u8, 3) {
+                k += 1;
+            }
         }
         d += 1;
     }
     k
 }
 
+// A guide: the sum of two numbers of pairs, up to 254.
+fn capped(a: u8, b: u8) -> u8 {
+    let s = a as u16 + b as u16;
+    if s < 254 { s as u8 } else { 254 }
+}
+
 // A guide: the number of such pairs, up to 254.
 fn live<'a>(
-    kind: &'a [u8; 128],
-    first: &'a [u8; 128],
-    second: &'a [u8; 128],
+    table: &'a Table,
     n: usize,
     rep: &'a [u8; 129],
     want: &'a [u8; 129],
     bare: &'a [u8; 129],
 ) -> u8
-    requires { ⌜ Rows n (now kind) (now first) (now second) ⌝ }
-    requires { ⌜ Kept n (tableAt (now kind) (now first) (now second)) (now rep) ⌝ }
+    requires { ⌜ TableWords n (now table) ⌝ }
+    requires { ⌜ Kept n (tableIn (now table)) (now rep) ⌝ }
 {
     let mut k = 0;
     let mut c = 0;
     while c < n {
         if want[c] == 1 {
-            k = live_row(kind, first, second, n, rep, want, bare, c, k);
+            k = capped(k, live_row(table, n, rep, want, bare, c));
         }
         c += 1;
     }
     k
 }
 
-// All cells that may help at the MK at p, and the bare ones.
+// All cells that may help at the MK at p, and the bare ones, by the marks of what is seen and built.
 fn by_all<'a>(
-    kind: &'a [u8; 128],
-    first: &'a [u8; 128],
-    second: &'a [u8; 128],
+    table: &'a Table,
     n: usize,
     rep: &'a [u8; 129],
-    seen: &'a [u8; 129],
-    built: &'a [u8; 129],
-    ekind: &'a [u8; 128],
-    ecell: &'a [u8; 128],
+    o: Marks,
+    run: &'a Run,
     p: usize,
 ) -> Trial
-    requires { ⌜ Rows n (now kind) (now first) (now second) ⌝ }
-    requires { ⌜ Kept n (tableAt (now kind) (now first) (now second)) (now rep) ⌝ }
-    requires { ⌜ Marked (now rep) (now seen) ⌝ }
-    requires { ⌜ Marked (now rep) (now built) ⌝ }
-    requires { ⌜ EventRows n (now ecell) (p + 1) ⌝ }
-    ensures want { λ r. ⌜ WantedRow (tableAt (now (kind .entry)) (now (first .entry)) (now (second .entry))) (now (rep .entry)) (now (seen .entry)) (now (built .entry)) (now (ekind .entry)) (now (ecell .entry)) p (r .want) ⌝ }
-    ensures bare { λ r. ⌜ BareTo (tableAt (now (kind .entry)) (now (first .entry)) (now (second .entry))) (now (rep .entry)) (now (seen .entry)) (now (built .entry)) (r .bare) n ⌝ }
+    requires { ⌜ TableWords n (now table) ⌝ }
+    requires { ⌜ Kept n (tableIn (now table)) (now rep) ⌝ }
+    requires { ⌜ MarkRow (now rep) (o .seen) ⌝ }
+    requires { ⌜ MarkRow (now rep) (o .built) ⌝ }
+    requires { ⌜ RunWords n (now run) (p + 1) ⌝ }
+    ensures want { λ r. ⌜ WantedRow (tableIn (now (table .entry))) (now (rep .entry)) (o .seen) (o .built) (now (run .entry)) p (r .want) ⌝ }
+    ensures bare { λ r. ⌜ BareTo (tableIn (now (table .entry))) (now (rep .entry)) (o .seen) (o .built) (r .bare) n ⌝ }
 {
-    let want = wanted(kind, first, second, n, rep, seen, built, ekind, ecell, p);
-    let bare = bares(kind, first, second, n, rep, seen, built);
-    let k = live(kind, first, second, n, rep, &want, &bare);
+    let want = wanted(table, n, rep, o, run, p);
+    let bare = bares(table, n, rep, &o.seen, &o.built);
+    let k = live(table, n, rep, &want, &bare);
     Trial {
         pairs: k,
         want: want,
@@ -160,63 +154,58 @@ fn by_all<'a>(
     }
 }
 
-// What is tried at the MK at p, by the marks o of what is seen and built and what is granted: a way down where what is to be made is not built by it,
-// with the cells that are bare by it; else all that may help.
-fn choose<'a, 'b>(
-    kind: &'a [u8; 128],
-    first: &'a [u8; 128],
-    second: &'a [u8; 128],
-    n: usize,
-    rep: &'a [u8; 129],
-    o: Marks,
-    g: Grant,
-    costs: &'b mut [u8; 129],
-    ekind: &'a [u8; 128],
-    ecell: &'a [u8; 128],
-    p: usize,
-) -> Trial
-    requires { ⌜ Rows n (now kind) (now first) (now second) ⌝ }
-    requires { ⌜ Kept n (tableAt (now kind) (now first) (now second)) (now rep) ⌝ }
-    requires { ⌜ Marked (now rep) (o .seen) ⌝ }
-    requires { ⌜ Marked (now rep) (o .built) ⌝ }
-    requires { ⌜ Whole (tableAt (now kind) (now first) (now second)) (now rep) (g .built) ⌝ }
-    requires { ⌜ BareTo (tableAt (now kind) (now first) (now second)) (now rep) (g .seen) (g .built) (g .bare) n ⌝ }
-    requires { ⌜ EventRows n (now ecell) (p + 1) ⌝ }
-    ensures { λ r. ⌜ Chosen (tableAt (now (kind .entry)) (now (first .entry)) (now (second .entry))) n (now (rep .entry)) o g (now (ekind .entry)) (now (ecell .entry)) p r ⌝ }
+// A way down from the class t, which is not built by what is granted, with the cells that are bare by it. The costs that were found stay with what is granted.
+fn by_line<'a>(table: &'a Table, n: usize, rep: &'a [u8; 129], g: Grant, t: usize) -> Chance
+    requires { ⌜ TableWords n (now table) ⌝ }
+    requires { ⌜ Kept n (tableIn (now table)) (now rep) ⌝ }
+    requires { ⌜ Whole (tableIn (now table)) (now rep) (g .built) ⌝ }
+    requires { ⌜ Lacking n (now rep) (g .built) t ⌝ }
+    ensures { λ r. ⌜ LineChance (tableIn (now (table .entry))) (now (rep .entry)) g t r ⌝ }
 {
-    let t = class_of(rep, cell(ecell[p]));
-    if g.built[t] != 1 {
-        let l = line(
-            kind,
-            first,
-            second,
-            n,
-            rep,
-            &g.built,
-            &g.bare,
-            &mut *costs,
-            t,
-        );
-        let want = l.cells;
-        let bare = g.bare;
-        return Trial {
+    let mut costs = g.costs;
+    let l = line(table, n, rep, g, &mut costs, t);
+    let want = l.cells;
+    let bare = g.bare;
+    Chance {
+        grant: with_costs(g, costs),
+        trial: Trial {
             pairs: l.pairs,
             want: want,
             bare: bare,
-        };
+        },
     }
-    by_all(
-        kind,
-        first,
-        second,
-        n,
-        rep,
-        &o.seen,
-        &o.built,
-        ekind,
-        ecell,
-        p,
-    )
+}
+
+// What is tried at the MK at p, by the marks o of what is seen and built and what is granted: a way down where what is to be made is not built by it,
+// with the cells that are bare by it; else all that may help.
+fn choose<'a>(
+    table: &'a Table,
+    n: usize,
+    rep: &'a [u8; 129],
+    run: &'a Run,
+    p: usize,
+    k: Known,
+) -> Chance
+    requires { ⌜ TableWords n (now table) ⌝ }
+    requires { ⌜ Kept n (tableIn (now table)) (now rep) ⌝ }
+    requires { ⌜ MarkRow (now rep) (k .marks .seen) ⌝ }
+    requires { ⌜ MarkRow (now rep) (k .marks .built) ⌝ }
+    requires { ⌜ Whole (tableIn (now table)) (now rep) (k .grant .built) ⌝ }
+    requires { ⌜ BareTo (tableIn (now table)) (now rep) (k .grant .seen) (k .grant .built) (k .grant .bare) n ⌝ }
+    requires { ⌜ RunWords n (now run) (p + 1) ⌝ }
+    ensures { λ r. ⌜ Chosen (tableIn (now (table .entry))) n (now (rep .entry)) (k .marks) (k .grant) (now (run .entry)) p (r .trial) ⌝ }
+    ensures costs { λ r. ⌜ Costing (k .grant) (r .grant) ⌝ }
+{
+    let o = k.marks;
+    let g = k.grant;
+    let t = class_of(rep, cell(aim_of(event_at(run, p))));
+    if g.built[t] != 1 {
+        return by_line(table, n, rep, g, t);
+    }
+    Chance {
+        grant: g,
+        trial: by_all(table, n, rep, o, run, p),
+    }
 }
 
 // A guide: how much there is to try, by the number of pairs and the number of dead ends that the position had.
@@ -248,33 +237,20 @@ fn better(best: Choice, trial: Trial, p: usize, dead: u16) -> Choice
     best
 }
 
-// Is the class of x marked?
-fn has<'a>(n: usize, rep: &'a [u8; 129], marks: &'a [u8; 129], x: u8) -> bool
-    requires { ⌜ ClassRow n (now rep) ⌝ }
-    requires { ⌜ x < n ⌝ }
-    requires { ⌜ n ≤ 128 ⌝ }
-    ensures { λ r. ⌜ Decides r (On (now (marks .entry)) (classAt (now (rep .entry)) x)) ⌝ }
-{
-    let t = class_of(rep, cell(x));
-    marks[t] == 1
-}
-
 // The marks of what is seen and built: if fresh, these; else found from those of what is seen.
 fn opened<'a>(
-    kind: &'a [u8; 128],
-    first: &'a [u8; 128],
-    second: &'a [u8; 128],
+    table: &'a Table,
     n: usize,
     rep: &'a [u8; 129],
     fresh: bool,
     seen: [u8; 129],
     built: [u8; 129],
 ) -> Marks
-    requires { ⌜ Rows n (now kind) (now first) (now second) ⌝ }
+    requires { ⌜ TableWords n (now table) ⌝ }
     requires { ⌜ ClassRow n (now rep) ⌝ }
-    requires { ⌜ Marked (now rep) seen ⌝ }
-    requires { ⌜ Marked (now rep) built ⌝ }
-    ensures { λ r. ⌜ Reopened (tableAt (now (kind .entry)) (now (first .entry)) (now (second .entry))) (now (rep .entry)) fresh seen built r ⌝ }
+    requires { ⌜ MarkRow (now rep) seen ⌝ }
+    requires { ⌜ MarkRow (now rep) built ⌝ }
+    ensures { λ r. ⌜ Reopened (tableIn (now (table .entry))) (now (rep .entry)) fresh seen built r ⌝ }
 {
     if fresh {
         return Marks {
@@ -282,67 +258,55 @@ fn opened<'a>(
             built: built,
         };
     }
-    open_known(kind, first, second, n, rep, seen)
+    open_known(table, n, rep, seen)
+}
+
+// A stage whose marks o are found, with what is granted and the best plan so far.
+fn renewed(dead: u16, o: Marks, grant: Grant, best: Choice) -> Stage
+    ensures { λ r. ⌜ r ≡ freshStage dead o grant best ⌝ }
+{
+    let seen = o.seen;
+    let built = o.built;
+    Stage {
+        fresh: true,
+        dead: dead,
+        seen: seen,
+        built: built,
+        grant: grant,
+        best: best,
+    }
 }
 
 // The stage after the MK at p.
 fn make<'a>(
-    kind: &'a [u8; 128],
-    first: &'a [u8; 128],
-    second: &'a [u8; 128],
+    table: &'a Table,
     n: usize,
     rep: &'a [u8; 129],
-    ekind: &'a [u8; 128],
-    ecell: &'a [u8; 128],
+    run: &'a Run,
     p: usize,
-    dead: u16,
     st: Stage,
 ) -> Stage
-    requires { ⌜ Rows n (now kind) (now first) (now second) ⌝ }
-    requires { ⌜ Solved n (tableAt (now kind) (now first) (now second)) (now rep) ⌝ }
-    requires { ⌜ EventRows n (now ecell) (p + 1) ⌝ }
-    requires { ⌜ StageRows (tableAt (now kind) (now first) (now second)) n (now rep) (now ekind) (now ecell) st ⌝ }
-    ensures rows { λ r. ⌜ StageRows (tableAt (now (kind .entry)) (now (first .entry)) (now (second .entry))) n (now (rep .entry)) (now (ekind .entry)) (now (ecell .entry)) r ⌝ }
-    ensures made { λ r. ⌜ MadeStage (tableAt (now (kind .entry)) (now (first .entry)) (now (second .entry))) n (now (rep .entry)) (now (ekind .entry)) (now (ecell .entry)) p st r ⌝ }
+    requires { ⌜ TableWords n (now table) ⌝ }
+    requires { ⌜ Solved n (tableIn (now table)) (now rep) ⌝ }
+    requires { ⌜ RunWords n (now run) (p + 1) ⌝ }
+    requires { ⌜ StageRows (tableIn (now table)) n (now rep) (now run) st ⌝ }
+    ensures rows { λ r. ⌜ StageRows (tableIn (now (table .entry))) n (now (rep .entry)) (now (run .entry)) r ⌝ }
+    ensures made { λ r. ⌜ MadeStage (tableIn (now (table .entry))) n (now (rep .entry)) (now (run .entry)) p st r ⌝ }
 {
     let seen = st.seen;
     let built = st.built;
     let grant = st.grant;
     let best = st.best;
-    let o = opened(kind, first, second, n, rep, st.fresh, seen, built);
-    let s = o.seen;
+    let o = opened(table, n, rep, st.fresh, seen, built);
     let b = o.built;
-    if has(n, rep, &b, ecell[p]) {
-        return Stage {
-            fresh: true,
-            seen: s,
-            built: b,
-            grant: grant,
-            best: best,
-        };
+    if has(n, rep, &b, aim_of(event_at(run, p))) {
+        return renewed(st.dead, o, grant, best);
     }
-    let g = granted(kind, first, second, n, rep, ekind, ecell, p, grant);
-    let mut costs = g.costs;
-    let x = choose(
-        kind,
-        first,
-        second,
-        n,
-        rep,
-        o,
-        g,
-        &mut costs,
-        ekind,
-        ecell,
-        p,
-    );
-    Stage {
-        fresh: true,
-        seen: s,
-        built: b,
-        grant: with_costs(g, costs),
-        best: better(best, x, p, dead),
-    }
+    let g = granted(table, n, rep, run, p, grant);
+    let x = choose(table, n, rep, run, p, Known { marks: o, grant: g });
+    let trial = x.trial;
+    let costed = x.grant;
+    renewed(st.dead, o, costed, better(best, trial, p, st.dead))
 }
 
 // What is granted, with other costs.
@@ -364,8 +328,8 @@ fn with_costs(g: Grant, costs: [u8; 129]) -> Grant
 // The stage after an LN of the cell x.
 fn hear<'a>(n: usize, rep: &'a [u8; 129], x: u8, st: Stage) -> Stage
     requires { ⌜ ClassRow n (now rep) ⌝ }
-    requires { ⌜ Marked (now rep) (st .seen) ⌝ }
-    requires { ⌜ Marked (now rep) (st .grant .seen) ⌝ }
+    requires { ⌜ MarkRow (now rep) (st .seen) ⌝ }
+    requires { ⌜ MarkRow (now rep) (st .grant .seen) ⌝ }
     requires { ⌜ x < n ⌝ }
     requires { ⌜ n ≤ 128 ⌝ }
     ensures { λ r. ⌜ HeardStage (now (rep .entry)) x st r ⌝ }
@@ -382,6 +346,7 @@ fn hear<'a>(n: usize, rep: &'a [u8; 129], x: u8, st: Stage) -> Stage
     let s = learn(n, rep, lit, cell(x));
     Stage {
         fresh: false,
+        dead: st.dead,
         seen: k,
         built: built,
         grant: Grant {
@@ -397,28 +362,25 @@ fn hear<'a>(n: usize, rep: &'a [u8; 129], x: u8, st: Stage) -> Stage
 
 // The stage after the event at p.
 fn step<'a>(
-    kind: &'a [u8; 128],
-    first: &'a [u8; 128],
-    second: &'a [u8; 128],
+    table: &'a Table,
     n: usize,
     rep: &'a [u8; 129],
-    ekind: &'a [u8; 128],
-    ecell: &'a [u8; 128],
+    run: &'a Run,
     p: usize,
-    dead: u16,
     st: Stage,
 ) -> Stage
-    requires { ⌜ Rows n (now kind) (now first) (now second) ⌝ }
-    requires { ⌜ Solved n (tableAt (now kind) (now first) (now second)) (now rep) ⌝ }
-    requires { ⌜ EventRows n (now ecell) (p + 1) ⌝ }
-    requires { ⌜ StageRows (tableAt (now kind) (now first) (now second)) n (now rep) (now ekind) (now ecell) st ⌝ }
-    ensures rows { λ r. ⌜ StageRows (tableAt (now (kind .entry)) (now (first .entry)) (now (second .entry))) n (now (rep .entry)) (now (ekind .entry)) (now (ecell .entry)) r ⌝ }
-    ensures stepped { λ r. ⌜ Stepped (tableAt (now (kind .entry)) (now (first .entry)) (now (second .entry))) n (now (rep .entry)) (now (ekind .entry)) (now (ecell .entry)) p st r ⌝ }
+    requires { ⌜ TableWords n (now table) ⌝ }
+    requires { ⌜ Solved n (tableIn (now table)) (now rep) ⌝ }
+    requires { ⌜ RunWords n (now run) (p + 1) ⌝ }
+    requires { ⌜ StageRows (tableIn (now table)) n (now rep) (now run) st ⌝ }
+    ensures rows { λ r. ⌜ StageRows (tableIn (now (table .entry))) n (now (rep .entry)) (now (run .entry)) r ⌝ }
+    ensures stepped { λ r. ⌜ Stepped (tableIn (now (table .entry))) n (now (rep .entry)) (now (run .entry)) p st r ⌝ }
 {
-    if ekind[p] != 0 {
-        return hear(n, rep, ecell[p], st);
+    let event = event_at(run, p);
+    match event {
+        Event::Make(_) => make(table, n, rep, run, p, st),
+        Event::Learn(x) => hear(n, rep, x, st),
     }
-    make(kind, first, second, n, rep, ekind, ecell, p, dead, st)
 }
 
 // Is a plan good enough to look no further?
@@ -431,27 +393,14 @@ fn enough(best: Choice) -> bool
     best.pairs <= 1
 }
 
-// The plan of a step: ready if everything that is to be made is built. Positions with dead ends before are taken sooner.
-pub fn plan<'a>(
-    kind: &'a [u8; 128],
-    first: &'a [u8; 128],
-    second: &'a [u8; 128],
-    n: usize,
-    rep: &'a [u8; 129],
-    ekind: &'a [u8; 128],
-    ecell: &'a [u8; 128],
-    count: usize,
-    dead: &'a [u16; 128],
-) -> Choice
-    requires { ⌜ Rows n (now kind) (now first) (now second) ⌝ }
-    requires { ⌜ Solved n (tableAt (now kind) (now first) (now second)) (now rep) ⌝ }
-    requires { ⌜ EventRows n (now ecell) count ⌝ }
-    ensures { λ r. ⌜ Plans (tableAt (now (kind .entry)) (now (first .entry)) (now (second .entry))) (runAt count (now (ekind .entry)) (now (ecell .entry))) (now (rep .entry)) r ⌝ }
+// The stage before the first event: nothing is learnt, the marks of his own name are granted, and nothing is to be tried.
+fn first_stage(own: [u8; 129]) -> Stage
+    ensures { λ r. ⌜ FirstStage own r ⌝ }
 {
-    let own = own_marks(n, rep);
     let none = [0; 129];
-    let mut st = Stage {
+    Stage {
         fresh: false,
+        dead: 0,
         seen: none,
         built: none,
         grant: Grant {
@@ -469,10 +418,28 @@ pub fn plan<'a>(
             want: none,
             bare: none,
         },
-    };
+    }
+}
+
+// The plan of a step: ready if everything that is to be made is built. Positions with dead ends before are taken sooner.
+pub fn plan<'a>(
+    table: &'a Table,
+    n: usize,
+    rep: &'a [u8; 129],
+    run: &'a Run,
+    count: usize,
+    dead: &'a [u16; 128],
+) -> Choice
+    requires { ⌜ TableWords n (now table) ⌝ }
+    requires { ⌜ Solved n (tableIn (now table)) (now rep) ⌝ }
+    requires { ⌜ RunWords n (now run) count ⌝ }
+    ensures { λ r. ⌜ Plans (tableIn (now (table .entry))) (runIn count (now (run .entry))) (now (rep .entry)) r ⌝ }
+{
+    let mut st = first_stage(own_marks(n, rep));
     let mut p = 0;
     while p < count {
-        let next = step(kind, first, second, n, rep, ekind, ecell, p, dead[p], st);
+        st.dead = dead[p];
+        let next = step(table, n, rep, run, p, st);
         st = next;
         p += 1;
         let best = st.best;

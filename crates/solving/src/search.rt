@@ -3,15 +3,18 @@ use super::list::value_list;
 use super::pairs::Next;
 use super::pairs::next_pair;
 use super::plan::plan;
+use cells::Run;
+use cells::Table;
 use classes::Settled;
 use classes::clash::clash;
 use classes::start;
 use classes::unify;
 use classes::upward::raise;
+use granting::Place;
 ghost use Prim.Native.Nat.{_≤_, _<_};
 ghost use Rattle.model.specs.Case.{WellFormed};
-ghost use Rattle.model.specs.Stored.{tableAt, runAt};
-ghost use Rattle.theory.specs.Cells.{Rows, EventRows};
+ghost use Rattle.model.specs.Stored.{tableIn, runIn};
+ghost use Rattle.theory.specs.Cells.{TableWords, RunWords};
 ghost use Rattle.classes.specs.Kept.{Kept, Solved};
 ghost use Rattle.classes.specs.Settle.{Unifies};
 ghost use Rattle.solving.specs.Pairs.{place, ChildOf};
@@ -26,7 +29,7 @@ struct Child {
 }
 
 // Yes with classes, or no.
-struct Found {
+struct Outcome {
     pub yes: bool,
     pub rep: [u8; 129],
 }
@@ -38,56 +41,45 @@ pub struct Solution {
 }
 
 // The classes with those of x and y in one, closed upwards; not ok if no messages of the cells allow it.
-fn joined<'a>(
-    kind: &'a [u8; 128],
-    first: &'a [u8; 128],
-    second: &'a [u8; 128],
-    n: usize,
-    rep: [u8; 129],
-    x: u8,
-    y: u8,
-) -> Settled
-    requires { ⌜ Rows n (now kind) (now first) (now second) ⌝ }
-    requires { ⌜ Kept n (tableAt (now kind) (now first) (now second)) rep ⌝ }
+fn joined<'a>(table: &'a Table, n: usize, rep: [u8; 129], x: u8, y: u8) -> Settled
+    requires { ⌜ TableWords n (now table) ⌝ }
+    requires { ⌜ Kept n (tableIn (now table)) rep ⌝ }
     requires { ⌜ (x < n) × (y < n) ⌝ }
-    ensures { λ r. ⌜ Unifies n (tableAt (now (kind .entry)) (now (first .entry)) (now (second .entry))) rep x y r ⌝ }
+    ensures { λ r. ⌜ Unifies n (tableIn (now (table .entry))) rep x y r ⌝ }
 {
-    if clash(kind, first, second, n, &rep, x, y, 3) {
+    if clash(table, n, &rep, x, y, 3) {
         return Settled {
             ok: false,
             rep: rep,
         };
     }
-    let u = unify(kind, first, second, n, rep, x, y);
+    let u = unify(table, n, rep, x, y);
     if !u.ok {
         return u;
     }
     let flat = u.rep;
-    let out = raise(kind, first, second, n, flat);
+    let out = raise(table, n, flat);
     Settled { ok: true, rep: out }
 }
 
-// The classes of the next pair from c0 and d0 on that can be made equal.
+// The classes of the next pair from the place `from` on that can be made equal.
 fn next_child<'a>(
-    kind: &'a [u8; 128],
-    first: &'a [u8; 128],
-    second: &'a [u8; 128],
+    table: &'a Table,
     n: usize,
     rep: [u8; 129],
     want: &'a [u8; 129],
     bare: &'a [u8; 129],
-    c0: usize,
-    d0: usize,
+    from: Place,
 ) -> Child
-    requires { ⌜ Rows n (now kind) (now first) (now second) ⌝ }
-    requires { ⌜ Kept n (tableAt (now kind) (now first) (now second)) rep ⌝ }
-    requires { ⌜ d0 ≤ 128 ⌝ }
-    ensures { λ r. ⌜ ChildOf (tableAt (now (kind .entry)) (now (first .entry)) (now (second .entry))) n rep (now (want .entry)) (now (bare .entry)) (place c0 d0) r ⌝ }
+    requires { ⌜ TableWords n (now table) ⌝ }
+    requires { ⌜ Kept n (tableIn (now table)) rep ⌝ }
+    requires { ⌜ from .d ≤ 128 ⌝ }
+    ensures { λ r. ⌜ ChildOf (tableIn (now (table .entry))) n rep (now (want .entry)) (now (bare .entry)) (place (from .c) (from .d)) r ⌝ }
 {
-    let mut c = c0;
-    let mut d = d0;
+    let mut c = from.c;
+    let mut d = from.d;
     loop {
-        let Next::Pair(x, y) = next_pair(kind, first, n, &rep, want, bare, c, d) else {
+        let Next::Pair(x, y) = next_pair(table, n, &rep, want, bare, Place { c: c, d: d }) else {
             return Child {
                 ok: false,
                 c: n,
@@ -95,7 +87,7 @@ fn next_child<'a>(
                 rep: rep,
             };
         };
-        let u = joined(kind, first, second, n, rep, x as u8, y as u8);
+        let u = joined(table, n, rep, x as u8, y as u8);
         if u.ok {
             let out = u.rep;
             return Child {
@@ -125,79 +117,56 @@ fn count_dead(dead: &mut [u16; 128], at: usize, pairs: u8) {
 
 // Classes that right values satisfy, found from the classes rep, or that no right values satisfy these. How many dead ends the positions had guides the choice of a step.
 fn search<'a, 'b>(
-    kind: &'a [u8; 128],
-    first: &'a [u8; 128],
-    second: &'a [u8; 128],
+    table: &'a Table,
     n: usize,
-    ekind: &'a [u8; 128],
-    ecell: &'a [u8; 128],
+    run: &'a Run,
     count: usize,
     dead: &'b mut [u16; 128],
     rep: [u8; 129],
-) -> Found
-    requires { ⌜ Rows n (now kind) (now first) (now second) ⌝ }
-    requires { ⌜ EventRows n (now ecell) count ⌝ }
-    requires { ⌜ WellFormed (tableAt (now kind) (now first) (now second)) (runAt count (now ekind) (now ecell)) ⌝ }
-    requires { ⌜ Solved n (tableAt (now kind) (now first) (now second)) rep ⌝ }
-    ensures { λ r. ⌜ Searched (tableAt (now (kind .entry)) (now (first .entry)) (now (second .entry))) n (runAt count (now (ekind .entry)) (now (ecell .entry))) rep r ⌝ }
+) -> Outcome
+    requires { ⌜ TableWords n (now table) ⌝ }
+    requires { ⌜ RunWords n (now run) count ⌝ }
+    requires { ⌜ WellFormed (tableIn (now table)) (runIn count (now run)) ⌝ }
+    requires { ⌜ Solved n (tableIn (now table)) rep ⌝ }
+    ensures { λ r. ⌜ Searched (tableIn (now (table .entry))) n (runIn count (now (run .entry))) rep r ⌝ }
 {
-    let pl = plan(kind, first, second, n, &rep, ekind, ecell, count, &*dead);
+    let pl = plan(table, n, &rep, run, count, &*dead);
     if pl.ready {
-        return Found {
+        return Outcome {
             yes: true,
             rep: rep,
         };
     }
     count_dead(&mut *dead, pl.at, pl.pairs);
-    let mut c = 0;
-    let mut d = 0;
+    let mut from = Place { c: 0, d: 0 };
     loop {
-        let h = next_child(kind, first, second, n, rep, &pl.want, &pl.bare, c, d);
+        let h = next_child(table, n, rep, &pl.want, &pl.bare, from);
         if !h.ok {
-            return Found {
+            return Outcome {
                 yes: false,
                 rep: rep,
             };
         }
         let next = h.rep;
-        let f = search(
-            kind,
-            first,
-            second,
-            n,
-            ekind,
-            ecell,
-            count,
-            &mut *dead,
-            next,
-        );
+        let f = search(table, n, run, count, &mut *dead, next);
         if f.yes {
             return f;
         }
-        c = h.c;
-        d = h.d;
+        from = Place { c: h.c, d: h.d };
     }
 }
 
-// A right value list of the file whose table and events lie in the rows, or that no values are right.
-pub fn solve<'a>(
-    kind: &'a [u8; 128],
-    first: &'a [u8; 128],
-    second: &'a [u8; 128],
-    n: usize,
-    ekind: &'a [u8; 128],
-    ecell: &'a [u8; 128],
-    count: usize,
-) -> Solution
-    requires { ⌜ Rows n (now kind) (now first) (now second) ⌝ }
-    requires { ⌜ EventRows n (now ecell) count ⌝ }
-    requires { ⌜ WellFormed (tableAt (now kind) (now first) (now second)) (runAt count (now ekind) (now ecell)) ⌝ }
-    ensures { λ r. ⌜ Solves (tableAt (now (kind .entry)) (now (first .entry)) (now (second .entry))) n (runAt count (now (ekind .entry)) (now (ecell .entry))) r ⌝ }
+// A right value list of the file whose table and run these are, or that no values are right.
+pub fn solve<'a>(table: &'a Table, n: usize, run: &'a Run, count: usize) -> Solution
+    requires { ⌜ TableWords n (now table) ⌝ }
+    requires { ⌜ RunWords n (now run) count ⌝ }
+    requires { ⌜ WellFormed (tableIn (now table)) (runIn count (now run)) ⌝ }
+    ensures { λ r. ⌜ Solves (tableIn (now (table .entry))) n (runIn count (now (run .entry))) r ⌝ }
 {
-    let rep = start(kind, first, second, n);
+    let rep = start(table, n);
     let mut dead = [0; 128];
-    let f = search(kind, first, second, n, ekind, ecell, count, &mut dead, rep);
-    let list = value_list(kind, n, &f.rep);
+    let f = search(table, n, run, count, &mut dead, rep);
+    let list = value_list(table, n, &f.rep);
     Solution {
         yes: f.yes,
         list: list,

@@ -5,7 +5,7 @@ use Prim.Native.Nat.{ℕ, _≤_, _<_, min}
 use lib.ListN.{getD}
 use Rattle.model.specs.Message.{One, App, Two, Message}
 use Rattle.model.specs.Case.{Cell, AT, ONE, TWO, PR, SE, Table, Reads, Lower}
-use Rattle.model.specs.Stored.{tableAt}
+use Rattle.model.specs.Stored.{tableIn, eventIn, aim}
 
 -- `Composes g`: a message of the kind g is given by its part.
 pub data Composes : One → Type 0 where
@@ -31,18 +31,16 @@ pub record Formed (T : Table) : Type 0 where
 abbrev pub Grounds : Table → (ℕ → ℕ) → (ℕ → Message) → (ℕ → Message) → Type 0
 Grounds T rep ν τ = Reads (λ c. T (rep c)) (λ c. ν (rep c)) τ
 
--- What the rows of a table of n cells keep, as the crates hand them to each other.
-pub record Rows (n : ℕ) (kinds firsts seconds : List ℕ) : Type 0 where
+-- What the words of a table of n cells keep, as the crates hand them to each other.
+pub record TableWords (n : ℕ) (words : List ℕ) : Type 0 where
   pub few : n ≤ 128
-  pub known : (c : ℕ) → getD kinds c 0 ≤ 4
-  pub bytes : (c : ℕ) → (getD firsts c 0 < 256) × (getD seconds c 0 < 256)
-  pub lower : Lower (tableAt kinds firsts seconds)
-  pub beyond : (c : ℕ) → n ≤ c → (getD kinds c 0 ≡ 0) × (getD firsts c 0 ≡ 0) × (getD seconds c 0 ≡ 0)
+  pub lower : Lower (tableIn words)
+  pub beyond : (c : ℕ) → n ≤ c → tableIn words c ≡ AT 0
 
--- What the row of the cells of m events keeps over n cells.
-pub record EventRows (n : ℕ) (cells : List ℕ) (m : ℕ) : Type 0 where
+-- What the words of a run of m events keep over n cells.
+pub record RunWords (n : ℕ) (words : List ℕ) (m : ℕ) : Type 0 where
   pub few : m ≤ 128
-  pub below : (p : ℕ) → p < m → getD cells p 0 < n
+  pub below : (p : ℕ) → p < m → aim (eventIn (getD words p 0)) < n
 
 -- The classes that lie in a row of 129 bytes: the entry of a cell is the cell that stands for its class. The cell 128, and all beyond it, show his own name.
 abbrev pub classAt : List ℕ → ℕ → ℕ

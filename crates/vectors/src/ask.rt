@@ -44,7 +44,7 @@ fn ask_file(file: &[u8]) {
     let verdict = case.verdict;
     let variable = case.variable;
     match verdict {
-        Verdict::Accepted => print_accepted(case.table.cells, case.events.count, variable),
+        Verdict::Accepted => print_accepted(case.table.count, case.run.count, variable),
         Verdict::Refused(number, place) => print_refused(number, place),
     }
 }

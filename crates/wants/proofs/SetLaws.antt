@@ -1,71 +1,52 @@
 -- The rows of one step have the sets of the step.
-use mathlib.Core.Path.{_≡_, refl, sym, ap, subst}
-use mathlib.Core.Bool.{Bool, true, false, cond}
+use mathlib.Core.Path.{_≡_, sym, subst}
 use mathlib.Core.List.{List}
-use mathlib.Core.Option.{some, none}
-use Prim.Native.Nat.{ℕ, zero, suc}
+use mathlib.Core.Option.{some}
+use Prim.Native.Nat.{ℕ}
 use native.Mathlib.Omega.{arith}
-use lib.Dec.{ltb}
 use lib.ListN.{getD}
 use Rattle.model.specs.Case.{SE, MK, Table, Part, in-left}
-use Rattle.model.specs.Stored.{tableAt, eventAt, runAt}
-use Rattle.model.proofs.Read.{clash}
-use Rattle.model.proofs.Stored.{var-kind}
-use Rattle.theory.specs.Cells.{Rows, Opening, classAt, On}
+use Rattle.model.specs.Stored.{tableIn, eventIn, aim, runIn}
+use Rattle.model.proofs.Stored.{run-at, run-below}
+use Rattle.theory.specs.Cells.{TableWords, Opening, classAt, On}
 use Rattle.theory.specs.Cut.{Sets}
 use Rattle.theory.specs.Sweep.{Swept}
 use Rattle.theory.proofs.MarkRows.{on?}
 use Rattle.theory.proofs.Rows.{rows-var, rows-part}
-use Rattle.knowledge.specs.Knowledge.{ClassRow, Marked}
-use Rattle.knowledge.specs.Sweeps.{rightPart}
+use Rattle.knowledge.specs.Knowledge.{ClassRow, MarkRow}
 use Rattle.wants.specs.Starts.{Wider, Keyed, FreeSeen, Due, Joint}
 use Rattle.wants.specs.Spread.{Lowered, Raised}
 use Rattle.wants.specs.Sets.{NeedRow, HeldRow, OverRow, WantedRow}
 
--- ---- events
+-- What is to be made at q, by the word there.
+make-at : (count : ℕ) (run : List ℕ) (q : ℕ) {t : ℕ} → runIn count run q ≡ some (MK t) → eventIn (getD run q 0) ≡ MK t
+make-at count run q e = let z = run-at count run q (run-below count run q e) in cc
 
-make-bytes : (k c t : ℕ) → eventAt k c ≡ MK t → (k ≡ 0) × (c ≡ t)
-make-bytes zero c t e = (refl, cc)
-make-bytes (suc k) c t e = clash (cc)
-
--- What is to be made at q, by the bytes there.
-pub make-at : (count : ℕ) (kinds cells : List ℕ) (q t : ℕ) → runAt count kinds cells q ≡ some (MK t) → (getD kinds q 0 ≡ 0) × (getD cells q 0 ≡ t)
-make-at count kinds cells q t = go (ltb q count)
-  where
-    go : (b : Bool) → cond b (some (eventAt (getD kinds q 0) (getD cells q 0))) none ≡ some (MK t) → (getD kinds q 0 ≡ 0) × (getD cells q 0 ≡ t)
-    go true e = make-bytes (getD kinds q 0) (getD cells q 0) t (cc)
-    go false e = clash (cc)
-
-module _ {n : ℕ} {K F S : List ℕ} (w : Rows n K F S) where
+module _ {n : ℕ} {words : List ℕ} (w : TableWords n words) where
   abbrev T : Table
-  T = tableAt K F S
+  T = tableIn words
 
   -- ---- the rows
 
   pub need-wider : {rep seens builts m k r : List ℕ} → Keyed T rep seens builts m k n → Lowered T rep builts 0 k r → Wider rep m r
   need-wider keyed low = record { long = low .wider .long; marked = low .wider .marked; kept = λ c o. low .wider .kept c (keyed .wider .kept c o) }
 
-  pub need-row : {rep seens builts m k r : List ℕ} → Marked rep builts → Keyed T rep seens builts m k n → Lowered T rep builts 0 k r → NeedRow T rep seens builts r
+  pub need-row : {rep seens builts m k r : List ℕ} → MarkRow rep builts → Keyed T rep seens builts m k n → Lowered T rep builts 0 k r → NeedRow T rep seens builts r
   need-row {rep} {seens} {builts} {m} {k} {r} bits keyed low = record { keys = keys; lower = λ c d e o q nb. low .parts c d e o q (let z = bits .bits (classAt rep d) in omega arith) }
     where
       keys : (c b j : ℕ) → T c ≡ SE b j → On seens c → (On builts (classAt rep j) → ⊥) → On r (classAt rep j)
-      keys c b j i s nb =
-          let z : rightPart (T c) c ≡ j = ap (λ y. rightPart y c) i in
-          low .wider .kept (classAt rep j) (subst (λ y. On k (classAt rep y)) z (keyed .keys c (rows-part w c b (subst (λ y. Part y b) (sym i) in-left) .0)
-          (record { whole = s; sealed = (b, j, i); lacks = λ o. nb (subst (λ y. On builts (classAt rep y)) z o) })))
+      keys c b j i s nb = low .wider .kept (classAt rep j)
+          (keyed .keys c j (rows-part w c b (subst (λ y. Part y b) (sym i) in-left) .0) (record { whole = s; sealed = (b, i); lacks = nb }))
 
-  pub held-row : {rep seens m r : List ℕ} → FreeSeen K rep seens m n → Raised T rep m r → HeldRow T rep seens r
-  held-row free up = record {
-    here = λ c e v s. up .wider .kept c (free .free c (rows-var w c v) (var-kind (getD K c 0) (getD F c 0) (getD S c 0) v) s);
-    up = up .up;
-  }
+  pub held-row : {rep seens m r : List ℕ} → FreeSeen T rep seens m n → Raised T rep m r → HeldRow T rep seens r
+  held-row free up = record { here = λ c e v s. up .wider .kept c (free .free c (rows-var w c v) (s, v)); up = up .up }
 
-  pub over-row : {rep held kinds cells m r : List ℕ} {p : ℕ} → Due rep held kinds cells m p → Lowered T rep held 1 m r → OverRow T rep held kinds cells p r
-  over-row {rep = rep} {cells = cells} due low = record { due = λ q lt e h. low .wider .kept (classAt rep (getD cells q 0)) (due .makes q lt e h); parts = low .parts }
+  pub over-row : {rep held run m r : List ℕ} {p : ℕ} → Due rep held run m p → Lowered T rep held 1 m r → OverRow T rep held run p r
+  over-row {rep} due low = record { due = λ q x lt e h. low .wider .kept (classAt rep x) (due .makes q x lt e h); parts = low .parts }
 
   module _ {rep : List ℕ} (row : ClassRow n rep) where
-    pub wanted-row : {seens builts held kinds cells m a b r : List ℕ} {p goal : ℕ} → goal ≡ getD cells p 0 → On m (classAt rep goal) → Wider rep m a → NeedRow T rep seens builts a →
-        HeldRow T rep seens held → OverRow T rep held kinds cells p b → Joint a b r 129 → WantedRow T rep seens builts kinds cells p r
+    pub wanted-row : {seens builts held run m a b r : List ℕ} {p goal : ℕ} → goal ≡ aim (eventIn (getD run p 0)) → On m (classAt rep goal) → Wider rep m a → NeedRow T rep seens builts a →
+        HeldRow T rep seens held → OverRow T rep held run p b → Joint a b r 129 → WantedRow T rep seens builts run p r
     wanted-row {held = held} {a = a} {b = b} is first wide need hold tops both = record {
       need = a;
       held = held;
@@ -80,19 +61,17 @@ module _ {n : ℕ} {K F S : List ℕ} (w : Rows n K F S) where
 
     -- ---- the sets
 
-    pub rows-sets : {seens builts need held over kinds cells : List ℕ} (count p : ℕ) → Swept T (classAt rep) (runAt count kinds cells) p (On seens) (On builts) →
-        NeedRow T rep seens builts need → HeldRow T rep seens held → OverRow T rep held kinds cells p over →
-        Sets T (classAt rep) (runAt count kinds cells) p (On seens) (On builts) (On need) (On held) (On over)
-    rows-sets {seens} {builts} {need} {held} {over} {kinds} {cells} count p sw needs holds tops = record {
+    pub rows-sets : {seens builts need held over run : List ℕ} (count p : ℕ) → Swept T (classAt rep) (runIn count run) p (On seens) (On builts) →
+        NeedRow T rep seens builts need → HeldRow T rep seens held → OverRow T rep held run p over →
+        Sets T (classAt rep) (runIn count run) p (On seens) (On builts) (On need) (On held) (On over)
+    rows-sets {seens} {builts} {need} {held} {over} {run} count p sw needs holds tops = record {
       marks = sw;
       marked = on? builts;
       keys = keys;
       lower = needs .lower;
       here = holds .here;
       up = holds .up;
-      due = λ q t lt e h.
-          let (z, i) = make-at count kinds cells q t e in
-          subst (λ c. On over (classAt rep c)) i (tops .due q lt z (subst (λ c. On held (classAt rep c)) (sym i) h));
+      due = λ q t lt e h. tops .due q t lt (make-at count run q e) h;
       parts = tops .parts;
     }
       where

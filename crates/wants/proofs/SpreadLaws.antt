@@ -8,11 +8,11 @@ use native.Mathlib.Omega.{arith}
 use lib.ListN.{length, getD, set}
 use borrow.Author.Count.{below-more}
 use Rattle.model.specs.Case.{Cell, Table, Part, in-arg, in-left, in-right}
-use Rattle.model.specs.Stored.{tableAt}
+use Rattle.model.specs.Stored.{tableIn}
 use Rattle.model.proofs.Finite.{eq?}
-use Rattle.theory.specs.Cells.{Rows, classAt, On}
+use Rattle.theory.specs.Cells.{TableWords, classAt, On}
 use Rattle.theory.proofs.Rows.{rows-part}
-use Rattle.knowledge.specs.Knowledge.{ClassRow, Marked}
+use Rattle.knowledge.specs.Knowledge.{ClassRow, MarkRow}
 use Rattle.knowledge.specs.Sweeps.{leftPart, rightPart, leftClass, rightClass, Grown}
 use Rattle.theory.proofs.MarkRows.{on?}
 use Rattle.knowledge.proofs.Grow.{grown-none, grown-mark}
@@ -30,8 +30,23 @@ part-side c in-right = inr refl
 -- ---- down
 
 module _ (T : Table) {n : ℕ} {rep : List ℕ} (row : ClassRow n rep) (only : List ℕ) (flag : ℕ) (m : List ℕ) where
-  pub lowering-none : length m ≡ 129 → Marked rep m → Lowering T rep only flag m m false n n
+  pub lowering-none : length m ≡ 129 → MarkRow rep m → Lowering T rep only flag m m false n n
   lowering-none l w = record { grown = grown-none l w; still = λ e c h g. absurd (omega arith) }
+
+  -- A sweep that leaves no part of c to mark has passed c too.
+  lowering-next : {r : List ℕ} {ch : Bool} (c : ℕ) → Lowering T rep only flag m r ch n (c + 1) →
+      (ch ≡ false → (Reaches r only flag c (leftClass T rep c) → ⊥) × (Reaches r only flag c (rightClass T rep c) → ⊥)) → Lowering T rep only flag m r ch n c
+  lowering-next {r} c x none = record {
+    grown = x .grown;
+    still = λ i d h g. elim (eq? d c) [
+      | inl q ↦ subst (λ z. (Reaches r only flag z (leftClass T rep z) → ⊥) × (Reaches r only flag z (rightClass T rep z) → ⊥)) (sym q) (none i)
+      | inr o ↦ x .still i d (omega arith) g
+    ];
+  }
+
+  pub lowering-pass : {r : List ℕ} {ch : Bool} (c u : ℕ) → u ≡ c + 1 → Lowering T rep only flag m r ch n u → (On r c → ⊥) → Lowering T rep only flag m r ch n c
+  lowering-pass {r} {ch} c u next x none =
+      lowering-next c (subst (λ i. Lowering T rep only flag m r ch n i) next x) (λ i. (λ y. none (y .whole), λ y. none (y .whole)))
 
   -- A sweep that has passed the cells above c, and of c the first part.
   pub record Half (r : List ℕ) (ch : Bool) (c : ℕ) : Type 0 where
@@ -62,21 +77,14 @@ module _ (T : Table) {n : ℕ} {rep : List ℕ} (row : ClassRow n rep) (only : L
     }
 
     pub lowering-skip : (Reaches r only flag c b → ⊥) → Lowering T rep only flag m r ch n c
-    lowering-skip none = record {
-      grown = x .sweep .grown;
-      still = λ i d h g. elim (eq? d c) [
-        | inl q ↦ subst (λ z. (Reaches r only flag z (leftClass T rep z) → ⊥) × (Reaches r only flag z (rightClass T rep z) → ⊥)) (sym q)
-            (x .left i, λ y. none (subst (Reaches r only flag c) (sym (e .right)) y))
-        | inr o ↦ x .sweep .still i d (omega arith) g
-      ];
-    }
+    lowering-skip none = lowering-next c (x .sweep) (λ i. (x .left i, λ y. none (subst (Reaches r only flag c) (sym (e .right)) y)))
 
-module _ {n : ℕ} {K F S rep : List ℕ} (w : Rows n K F S) (only : List ℕ) (flag : ℕ) where
-  pub lowered-still : {m₀ m r : List ℕ} → Wider rep m₀ m → Lowering (tableAt K F S) rep only flag m r false n 0 → Lowered (tableAt K F S) rep only flag m₀ r
+module _ {n : ℕ} {words rep : List ℕ} (w : TableWords n words) (only : List ℕ) (flag : ℕ) where
+  pub lowered-still : {m₀ m r : List ℕ} → Wider rep m₀ m → Lowering (tableIn words) rep only flag m r false n 0 → Lowered (tableIn words) rep only flag m₀ r
   lowered-still {m₀} {m} {r} x y = record { wider = grown-wider x (y .grown); parts = parts }
     where
       T : Table
-      T = tableAt K F S
+      T = tableIn words
 
       reach : (c d : ℕ) → On r c → getD only d 0 ≡ flag → (Reaches r only flag c d → ⊥) → On r d
       reach c d o f none = elim (on? r d) [ inl i ↦ i | inr i ↦ absurd (none (record { whole = o; fit = f; new = i })) ]
@@ -92,7 +100,7 @@ module _ {n : ℕ} {K F S rep : List ℕ} (w : Rows n K F S) (only : List ℕ) (
 -- ---- up
 
 module _ (T : Table) (rep m : List ℕ) where
-  pub raising-none : length m ≡ 129 → Marked rep m → Raising T rep m m false 0
+  pub raising-none : length m ≡ 129 → MarkRow rep m → Raising T rep m m false 0
   raising-none l w = record { grown = grown-none l w; still = λ e c h. absurd (omega arith) }
 
   module _ {r : List ℕ} {ch : Bool} (c : ℕ) (x : Raising T rep m r ch c) where
@@ -112,12 +120,12 @@ module _ (T : Table) (rep m : List ℕ) (c a b : ℕ) (e : EndsAt T rep c a b) w
   pub raises-none : (On m a → ⊥) → Raises T rep m c → On m b
   raises-none n x = elim (x .part) [ inl o ↦ absurd (n (subst (On m) (sym (e .left)) o)) | inr o ↦ subst (On m) (sym (e .right)) o ]
 
-module _ {n : ℕ} {K F S rep : List ℕ} (w : Rows n K F S) where
-  pub raised-still : {m₀ m r : List ℕ} → Wider rep m₀ m → Raising (tableAt K F S) rep m r false n → Raised (tableAt K F S) rep m₀ r
+module _ {n : ℕ} {words rep : List ℕ} (w : TableWords n words) where
+  pub raised-still : {m₀ m r : List ℕ} → Wider rep m₀ m → Raising (tableIn words) rep m r false n → Raised (tableIn words) rep m₀ r
   raised-still {m₀} {m} {r} x y = record { wider = grown-wider x (y .grown); up = up }
     where
       T : Table
-      T = tableAt K F S
+      T = tableIn words
 
       up : (c d : ℕ) → classAt rep c ≡ c → Part (T c) d → On r (classAt rep d) → On r c
       up c d e q o = elim (on? r c) [

@@ -6,5 +6,5 @@ mod starts;
 pub use spread::Swept;
 pub use starts::Pick;
 pub use starts::bares;
-pub use starts::both_one;
 pub use starts::ends;
+pub use starts::free_at;

@@ -1,11 +1,12 @@
 // Marks that spread over the classes, down to parts or up from them, until nothing changes.
 use super::starts::ends;
-use knowledge::class_of;
+use cells::Table;
+use classes::class_of;
 ghost use Prim.Native.Nat.{_≤_, _<_};
-ghost use Rattle.model.specs.Stored.{tableAt};
-ghost use Rattle.theory.specs.Cells.{Rows};
+ghost use Rattle.model.specs.Stored.{tableIn};
+ghost use Rattle.theory.specs.Cells.{TableWords};
 ghost use Rattle.theory.specs.Decides.{Decides};
-ghost use Rattle.knowledge.specs.Knowledge.{ClassRow, Marked};
+ghost use Rattle.knowledge.specs.Knowledge.{ClassRow, MarkRow};
 ghost use Rattle.wants.specs.Spread.{Reaches, Lowering, Lowered, Raises, Raising, Raised};
 
 // A row of marks, and whether it has more than before.
@@ -30,27 +31,28 @@ fn reaches<'a>(marks: &'a [u8; 129], only: &'a [u8; 129], flag: u8, c: usize, d:
 }
 
 // One sweep downwards: the parts of marked cells are marked, as far as they have `flag` in `only`.
-fn lower<'a>(
-    kind: &'a [u8; 128],
-    first: &'a [u8; 128],
-    second: &'a [u8; 128],
+fn lower_once<'a>(
+    table: &'a Table,
     n: usize,
     rep: &'a [u8; 129],
     only: &'a [u8; 129],
     flag: u8,
     start: [u8; 129],
 ) -> Swept
-    requires { ⌜ Rows n (now kind) (now first) (now second) ⌝ }
+    requires { ⌜ TableWords n (now table) ⌝ }
     requires { ⌜ ClassRow n (now rep) ⌝ }
-    requires { ⌜ Marked (now rep) start ⌝ }
-    ensures { λ r. ⌜ Lowering (tableAt (now (kind .entry)) (now (first .entry)) (now (second .entry))) (now (rep .entry)) (now (only .entry)) flag start (r .marks) (r .changed) n 0 ⌝ }
+    requires { ⌜ MarkRow (now rep) start ⌝ }
+    ensures { λ r. ⌜ Lowering (tableIn (now (table .entry))) (now (rep .entry)) (now (only .entry)) flag start (r .marks) (r .changed) n 0 ⌝ }
 {
     let mut m = start;
     let mut changed = false;
     let mut c = n;
     while 0 < c {
         c -= 1;
-        let e = ends(kind, first, second, n, rep, c);
+        if m[c] != 1 {
+            continue;
+        }
+        let e = ends(table, n, rep, c);
         let a = e.left;
         let b = e.right;
         if reaches(&m, only, flag, c, a) {
@@ -70,23 +72,21 @@ fn lower<'a>(
 
 // The marks with the parts of marked cells, as far as they have `flag` in `only`.
 pub fn lowered<'a>(
-    kind: &'a [u8; 128],
-    first: &'a [u8; 128],
-    second: &'a [u8; 128],
+    table: &'a Table,
     n: usize,
     rep: &'a [u8; 129],
     only: &'a [u8; 129],
     flag: u8,
     start: [u8; 129],
 ) -> [u8; 129]
-    requires { ⌜ Rows n (now kind) (now first) (now second) ⌝ }
+    requires { ⌜ TableWords n (now table) ⌝ }
     requires { ⌜ ClassRow n (now rep) ⌝ }
-    requires { ⌜ Marked (now rep) start ⌝ }
-    ensures { λ r. ⌜ Lowered (tableAt (now (kind .entry)) (now (first .entry)) (now (second .entry))) (now (rep .entry)) (now (only .entry)) flag start r ⌝ }
+    requires { ⌜ MarkRow (now rep) start ⌝ }
+    ensures { λ r. ⌜ Lowered (tableIn (now (table .entry))) (now (rep .entry)) (now (only .entry)) flag start r ⌝ }
 {
     let mut m = start;
     loop {
-        let s = lower(kind, first, second, n, rep, only, flag, m);
+        let s = lower_once(table, n, rep, only, flag, m);
         m = s.marks;
         if !s.changed {
             return m;
@@ -96,18 +96,16 @@ pub fn lowered<'a>(
 
 // Is c to be marked, as a cell with a marked part?
 fn raises<'a>(
-    kind: &'a [u8; 128],
-    first: &'a [u8; 128],
-    second: &'a [u8; 128],
+    table: &'a Table,
     n: usize,
     rep: &'a [u8; 129],
     marks: &'a [u8; 129],
     c: usize,
 ) -> bool
-    requires { ⌜ Rows n (now kind) (now first) (now second) ⌝ }
+    requires { ⌜ TableWords n (now table) ⌝ }
     requires { ⌜ ClassRow n (now rep) ⌝ }
     requires { ⌜ c < n ⌝ }
-    ensures { λ r. ⌜ Decides r (Raises (tableAt (now (kind .entry)) (now (first .entry)) (now (second .entry))) (now (rep .entry)) (now (marks .entry)) c) ⌝ }
+    ensures { λ r. ⌜ Decides r (Raises (tableIn (now (table .entry))) (now (rep .entry)) (now (marks .entry)) c) ⌝ }
 {
     if class_of(rep, c) != c {
         return false;
@@ -115,7 +113,7 @@ fn raises<'a>(
     if marks[c] == 1 {
         return false;
     }
-    let e = ends(kind, first, second, n, rep, c);
+    let e = ends(table, n, rep, c);
     let a = e.left;
     let b = e.right;
     if marks[a] == 1 {
@@ -125,24 +123,17 @@ fn raises<'a>(
 }
 
 // One sweep upwards: cells with a marked part are marked.
-fn raise<'a>(
-    kind: &'a [u8; 128],
-    first: &'a [u8; 128],
-    second: &'a [u8; 128],
-    n: usize,
-    rep: &'a [u8; 129],
-    start: [u8; 129],
-) -> Swept
-    requires { ⌜ Rows n (now kind) (now first) (now second) ⌝ }
+fn raise_once<'a>(table: &'a Table, n: usize, rep: &'a [u8; 129], start: [u8; 129]) -> Swept
+    requires { ⌜ TableWords n (now table) ⌝ }
     requires { ⌜ ClassRow n (now rep) ⌝ }
-    requires { ⌜ Marked (now rep) start ⌝ }
-    ensures { λ r. ⌜ Raising (tableAt (now (kind .entry)) (now (first .entry)) (now (second .entry))) (now (rep .entry)) start (r .marks) (r .changed) n ⌝ }
+    requires { ⌜ MarkRow (now rep) start ⌝ }
+    ensures { λ r. ⌜ Raising (tableIn (now (table .entry))) (now (rep .entry)) start (r .marks) (r .changed) n ⌝ }
 {
     let mut m = start;
     let mut changed = false;
     let mut c = 0;
     while c < n {
-        if raises(kind, first, second, n, rep, &m, c) {
+        if raises(table, n, rep, &m, c) {
             m[c] = 1;
             changed = true;
         }
@@ -155,22 +146,15 @@ fn raise<'a>(
 }
 
 // The marks with the cells that hold a marked one.
-pub fn raised<'a>(
-    kind: &'a [u8; 128],
-    first: &'a [u8; 128],
-    second: &'a [u8; 128],
-    n: usize,
-    rep: &'a [u8; 129],
-    start: [u8; 129],
-) -> [u8; 129]
-    requires { ⌜ Rows n (now kind) (now first) (now second) ⌝ }
+pub fn raised<'a>(table: &'a Table, n: usize, rep: &'a [u8; 129], start: [u8; 129]) -> [u8; 129]
+    requires { ⌜ TableWords n (now table) ⌝ }
     requires { ⌜ ClassRow n (now rep) ⌝ }
-    requires { ⌜ Marked (now rep) start ⌝ }
-    ensures { λ r. ⌜ Raised (tableAt (now (kind .entry)) (now (first .entry)) (now (second .entry))) (now (rep .entry)) start r ⌝ }
+    requires { ⌜ MarkRow (now rep) start ⌝ }
+    ensures { λ r. ⌜ Raised (tableIn (now (table .entry))) (now (rep .entry)) start r ⌝ }
 {
     let mut m = start;
     loop {
-        let s = raise(kind, first, second, n, rep, m);
+        let s = raise_once(table, n, rep, m);
         m = s.marks;
         if !s.changed {
             return m;

@@ -23,6 +23,8 @@ bench: the library's run beside the lazy intruder, as published and with shortcu
   --only runs|growth  one of the two tables
   --only list         no table: family, bytes and name of each case, for profile.sh
   --once BYTES        one run asked once, for profile.sh
+  --only calls        no table: question and shape of each line of the second table, for profile.sh
+  --call WORDS        one call of a question, a shape and a number of cells, for profile.sh
 
 Exit status: 0, or 1 if two ways of solving disagree or one with the last word of the case's name, 2 for a flag not understood.";
 
@@ -35,13 +37,14 @@ pub struct Options {
     only: String,
     measure: Option<Vec<u8>>,
     once: Option<Vec<u8>>,
+    call: Option<String>,
 }
 
 fn options() -> Result<Options, String> {
     let here = if std::path::Path::new("cases").is_dir() { "cases" } else { "harness/cases" };
     let limits = Limits { library: Duration::from_secs(10), lazy: Duration::from_secs(2) };
     let (family, only) = (String::new(), String::new());
-    let mut options = Options { cases: here.into(), family, each: 15, seed: 1, limits, only, measure: None, once: None };
+    let mut options = Options { cases: here.into(), family, each: 15, seed: 1, limits, only, measure: None, once: None, call: None };
     let mut args = std::env::args().skip(1);
     while let Some(flag) = args.next() {
         let value = args.next().ok_or(HELP)?;
@@ -53,9 +56,10 @@ fn options() -> Result<Options, String> {
             "--seed" => options.seed = number()?,
             "--library-limit" => options.limits.library = Duration::from_millis(number()?),
             "--lazy-limit" => options.limits.lazy = Duration::from_millis(number()?),
-            "--only" if ["runs", "growth", "list"].contains(&value.as_str()) => options.only = value,
+            "--only" if ["runs", "growth", "list", "calls"].contains(&value.as_str()) => options.only = value,
             "--measure" => options.measure = Some(bytes(&value)?),
             "--once" => options.once = Some(bytes(&value)?),
+            "--call" => options.call = Some(value),
             _ => return Err(format!("{flag} {value}: not understood\n\n{HELP}")),
         }
     }
@@ -80,6 +84,13 @@ fn main() -> ExitCode {
     }
     if let Some(file) = &options.once {
         library::run(file, &mut [0; 128]);
+        return ExitCode::SUCCESS;
+    }
+    if let Some(words) = &options.call {
+        return ExitCode::from(if growth::once(words, options.seed) { 0 } else { 2 });
+    }
+    if options.only == "calls" {
+        growth::list(options.seed);
         return ExitCode::SUCCESS;
     }
     if options.only == "list" {

@@ -3,10 +3,11 @@ use Prim.Native.Nat.{ℕ}
 use mathlib.Core.List.{List}
 use native.Mathlib.Omega.{arith}
 use borrow.Author.Needs.{needs}
-use Rattle.theory.specs.Cells.{Rows}
+use Rattle.model.proofs.Accepted.{Bytes}
+use Rattle.theory.specs.Cells.{TableWords}
 use Rattle.knowledge.proofs.ClassRows.{kept-row}
 use Rattle.casefile.specs.declared.Case.{Case}
-use Rattle.casefile.proofs.CaseFile.{CaseFile, case-refused, case-accepted, case-variable, case-rows, case-events}
+use Rattle.casefile.proofs.CaseFile.{CaseFile, case-refused, case-accepted, case-variable, case-words, case-events}
 use Rattle.building.proofs.PromiseLaws.{promise-refused, promise-variable}
 use Rattle.building.proofs.CaseLaws.{answer-short, answer-marks}
 use Rattle.building.proofs.build_marks.Statement.{statement}
@@ -22,13 +23,15 @@ buffer c = c .before .before .before .args .out .now
 abbrev reply : tie.After-read-case → Case
 reply c = c .read-case .result
 
--- Where the file is accepted, the reply is that of the file, and its rows are rows of a table.
+-- Where the file is accepted, the reply is that of the file, and its words are words of a table.
 case : (c : tie.After-enum-told) → CaseFile (bytes (c .before .before)) (reply (c .before .before))
 case c = let r = c .before .before in case-accepted (bytes r) (reply r) (r .read-case .ensures) (c .enum-told .given .1)
 
-rows : (c : tie.After-enum-told) →
-    Rows (reply (c .before .before) .table .cells) (reply (c .before .before) .table .kind) (reply (c .before .before) .table .first) (reply (c .before .before) .table .second)
-rows c = case-rows (case c) (λ i. omega (arith, c .before .before .before .before .shared-slice-known .given i))
+every : (c : tie.After-enum-told) → Bytes (bytes (c .before .before))
+every c i = omega (arith, c .before .before .before .before .shared-slice-known .given i)
+
+words : (c : tie.After-enum-told) → TableWords (reply (c .before .before) .table .count) (reply (c .before .before) .table .words)
+words c = case-words (case c) (every c)
 
 read-case-requires : tie.Need-read-case-requires
 read-case-requires c κs = search needs
@@ -64,15 +67,15 @@ returns-3 c =
 
 open-heard-requires : tie.Need-open-heard-requires
 open-heard-requires c κs =
-    let d = c .before .before .before .before .before .before .before .before .before .before .before .before in
-    (rows d, case-events (case d))
+    let d = c .before .before .before .before .before .before .before .before .before in
+    (words d, case-events (case d))
 
 lay-marks-requires : tie.Need-lay-marks-requires
 lay-marks-requires c κs =
     let o = c .before .before .before .before .before in
-    let l = o .before .before .before .before .before .before .before .before in
+    let l = o .before .before .before .before .before in
     let d = l .before .before .before .before .before in
-    (rows d .few, (kept-row (rows d) (o .open-heard .ensures .classes .solved .kept) .low, l .if1 .left))
+    (words d .few, (kept-row (words d) (o .open-heard .ensures .classes .solved .kept) .low, l .if1 .left))
 
 same-length : tie.Need-same-length
 same-length c = search needs
@@ -81,10 +84,10 @@ returns-4 : tie.Need-returns-4
 returns-4 c =
     let y = c .before .before in
     let o = y .before .before .before .before .before .before in
-    let l = o .before .before .before .before .before .before .before .before in
+    let l = o .before .before .before .before .before in
     let v = l .before .before .before in
     let d = v .before .before in
-    answer-marks (case d) (v .enum-told2 .given .1) (buffer (d .before .before)) (l .if1 .left) (o .open-heard .ensures) (y .lay-marks .ensures)
+    answer-marks (case d) (v .enum-told2 .given .1) (buffer (d .before .before)) (every d) (o .open-heard .ensures) (l .if1 .left) (y .lay-marks .ensures)
 
 pub build-marks-spec : {M : Type 1} → statement M
 build-marks-spec =

@@ -80,26 +80,23 @@ returns c =
 
 returns-2 : tie.Need-returns-2
 returns-2 c =
-    let e = c .before .before .before .before .before in
-    let o = e .before .before in
-    let r = o .before .before .before in
+    let r = c .before .before .before .before .before .before .before .before .before .before in
     let file = now (r .before .before .args .file) in
     let at = r .read-cells .result .at in
     let t = r .read-cells .result .table in
-    let cut = subst (λ s. cellsRead file s at t) (o .enum-told .given .1) (r .read-cells .ensures) in
+    let cut = subst (λ s. cellsRead file s at t) (c .before .before .before .before .before .before .before .enum-told .given .1) (r .read-cells .ensures) in
+    let e = c .before .before .before .before .before in
     c .refused2 .ensures ∙ reply-refused file at t cut (e .read-events .result) (e .read-events .ensures) _ _ (c .before .before .verdict .given .1)
 
 returns-3 : tie.Need-returns-3
 returns-3 c =
-    let u = c .before .before .before in
-    let e = u .before .before .before in
-    let o = e .before .before in
-    let r = o .before .before .before in
+    let r = c .before .before .before .before .before .before .before .before .before .before .before in
     let file = now (r .before .before .args .file) in
     let at = r .read-cells .result .at in
     let t = r .read-cells .result .table in
-    let cut = subst (λ s. cellsRead file s at t) (o .enum-told .given .1) (r .read-cells .ensures) in
-    reply-accepted file at t cut (e .read-events .result) (e .read-events .ensures) (c .first-variable .result) (u .enum-told2 .given .1) (c .first-variable .ensures)
+    let cut = subst (λ s. cellsRead file s at t) (c .before .before .before .before .before .before .before .before .enum-told .given .1) (r .read-cells .ensures) in
+    let e = c .before .before .before .before .before .before in
+    reply-accepted file at t cut (e .read-events .result) (e .read-events .ensures) _ (c .before .before .before .enum-told2 .given .1) (c .first-variable .ensures)
 
 pub read-case-spec : {M : Type 1} → statement M
 read-case-spec =

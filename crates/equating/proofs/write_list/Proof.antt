@@ -5,19 +5,20 @@ use Prim.Native.Nat.{ℕ, _≤_, _-_}
 use native.Mathlib.Omega.{arith}
 use lib.ListN.{length, drop, length-set}
 use denote.Ref.{now}
-use Rattle.equating.specs.Cells.{listOf}
+use Rattle.model.specs.Stored.{tableIn}
+use Rattle.equating.specs.Entries.{listOf}
 use Rattle.equating.proofs.ListLaws.{listOf-none, listOf-next, listOf-laid}
 use Rattle.equating.proofs.write_list.Statement.{statement}
 use Rattle.equating.proofs.write_list.Tie as tie
 
 abbrev Inv-loop : tie.InvT-loop
-Inv-loop kind rep n out₀ i₀ out i = (i ≤ n) × (out ≡ listOf kind rep i ++ drop i out₀) × (length out ≡ length out₀)
+Inv-loop table rep n out₀ i₀ out i = (i ≤ n) × (out ≡ listOf (tableIn table) rep i ++ drop i out₀) × (length out ≡ length out₀)
 
 abbrev μ-loop : tie.MeasureT-loop
-μ-loop kind rep n out₀ i₀ out i = n - i
+μ-loop table rep n out₀ i₀ out i = n - i
 
 loop-holds : tie.Need-loop-holds Inv-loop μ-loop
-loop-holds c = let a = c .before .args in (omega arith, listOf-none (now (a .kind)) (a .rep) (now (a .out)), refl)
+loop-holds c = let a = c .before .args in (omega arith, listOf-none (tableIn (now (a .table))) (a .rep) (now (a .out)), refl)
 
 entry-requires : tie.Need-entry-requires Inv-loop μ-loop
 entry-requires c κs = omega arith
@@ -37,7 +38,7 @@ loop-again c =
     let v = l .loop .inv in
     let a = l .before .before .args in (
       omega arith,
-      rw (v .1, c .entry .ensures) (listOf-next (now (a .kind)) (a .rep) (now (a .out)) (l .loop .i) (omega arith)),
+      rw (v .1, c .entry .ensures) (listOf-next (tableIn (now (a .table))) (a .rep) (now (a .out)) (l .loop .i) (omega arith)),
       length-set (l .loop .out) (l .loop .i) (c .entry .result) ∙ v .2,
     )
 
@@ -49,7 +50,7 @@ returns c =
     let l = c .before in
     let a = l .before .before .args in
     let z : l .loop .i ≡ a .n = omega arith in
-    l .loop .inv .1 ∙ (ap (λ (i : ℕ). listOf (now (a .kind)) (a .rep) i ++ drop i (now (a .out))) z ∙ listOf-laid (now (a .kind)) (a .rep) (now (a .out)) (a .n))
+    l .loop .inv .1 ∙ (ap (λ (i : ℕ). listOf (tableIn (now (a .table))) (a .rep) i ++ drop i (now (a .out))) z ∙ listOf-laid (tableIn (now (a .table))) (a .rep) (now (a .out)) (a .n))
 
 pub write-list-spec : {M : Type 1} → statement M
 write-list-spec =

@@ -4,7 +4,7 @@ use mathlib.Core.Path.{subst}
 use native.Mathlib.Omega.{arith}
 use borrow.Author.Needs.{needs}
 use Rattle.model.specs.Case.{Table}
-use Rattle.model.specs.Stored.{tableAt}
+use Rattle.model.specs.Stored.{tableIn}
 use Rattle.knowledge.specs.Sweeps.{Falling}
 use Rattle.knowledge.proofs.AtCell.{left-end, right-end, found-parts, found-nothing}
 use Rattle.knowledge.proofs.Sound.{falling-none, falling-skip, falling-mark}
@@ -12,17 +12,17 @@ use Rattle.knowledge.proofs.fall.Statement.{statement}
 use Rattle.knowledge.proofs.fall.Tie as tie
 
 abbrev Inv-loop : tie.InvT-loop
-Inv-loop kind first second n rep built seen₀ changed₀ c₀ seen changed c = (Falling (tableAt kind first second) rep built seen₀ seen changed n c) × (c ≤ n)
+Inv-loop table n rep built seen₀ changed₀ c₀ seen changed c = (Falling (tableIn table) rep built seen₀ seen changed n c) × (c ≤ n)
 
 abbrev μ-loop : tie.MeasureT-loop
-μ-loop kind first second n rep built seen₀ changed₀ c₀ seen changed c = c
+μ-loop table n rep built seen₀ changed₀ c₀ seen changed c = c
 
--- The table of the rows.
+-- The table of the words.
 abbrev table : tie.Start Inv-loop μ-loop → Table
-table s = tableAt (s .args .kind .now) (s .args .first .now) (s .args .second .now)
+table s = tableIn (s .args .table .now)
 
 loop-holds : tie.Need-loop-holds Inv-loop μ-loop
-loop-holds c = (falling-none (table c) (c .pre .1 .0) (c .args .t7) (c .args .start) (search needs) (c .pre .1 .1), omega arith)
+loop-holds c = (falling-none (table c) (c .pre .1 .0) (c .args .t5) (c .args .start) (search needs) (c .pre .1 .1), omega arith)
 
 sub-c : tie.Need-sub-c Inv-loop μ-loop
 sub-c c = omega arith
@@ -51,7 +51,7 @@ loop-again c =
     let l = c .before .before .before .before .before .before .before in
     let s = l .before in
     let y = found-parts {T = table s} (c .before .before .before .shows .ensures) (c .before .f .given .1) in
-    (falling-mark (table s) (s .pre .1 .0) (s .args .t7) (s .args .start) (l .loop .c - 1) (l .loop .c) (omega arith) (l .loop .inv .0) _ _ (y .0) (y .1) (y .2), omega arith)
+    (falling-mark (table s) (s .pre .1 .0) (s .args .t5) (s .args .start) (l .loop .c - 1) (l .loop .c) (omega arith) (l .loop .inv .0) _ _ (y .0) (y .1) (y .2), omega arith)
 
 enum-told : tie.Need-enum-told Inv-loop μ-loop
 enum-told c = search needs
@@ -63,7 +63,7 @@ loop-again-2 : tie.Need-loop-again-2 Inv-loop μ-loop
 loop-again-2 c =
     let l = c .before .before .before .before .before .before in
     let s = l .before in (
-      falling-skip (table s) (s .pre .1 .0) (s .args .t7) (s .args .start) (l .loop .c - 1) (l .loop .c) (omega arith) (l .loop .inv .0)
+      falling-skip (table s) (s .pre .1 .0) (s .args .t5) (s .args .start) (l .loop .c - 1) (l .loop .c) (omega arith) (l .loop .inv .0)
           (found-nothing {T = table s} (c .before .before .shows .ensures) (c .enum-told .given .1)),
       omega arith,
     )
@@ -72,7 +72,7 @@ returns : tie.Need-returns Inv-loop μ-loop
 returns c =
     let l = c .before in
     let s = l .before in
-    subst (λ (i : ℕ). Falling (table s) (s .args .rep .now) (s .args .t7) (s .args .start) (l .loop .seen) (l .loop .changed) (s .args .n) i) (omega arith) (l .loop .inv .0)
+    subst (λ (i : ℕ). Falling (table s) (s .args .rep .now) (s .args .t5) (s .args .start) (l .loop .seen) (l .loop .changed) (s .args .n) i) (omega arith) (l .loop .inv .0)
 
 pub fall-spec : {M : Type 1} → statement M
 fall-spec =

@@ -1,30 +1,17 @@
 -- `knowledge::newly` meets its contract: the tests are the fields of `Newly`, one after the other.
-use Prim.Native.Nat.{_<_}
-use mathlib.Core.Path.{sym, _∙_, _≡_}
-use borrow.Author.Needs.{needs}
-use Rattle.model.specs.Case.{Table}
-use Rattle.model.specs.Stored.{tableAt}
+use mathlib.Core.Path.{_≡_, sym, _∙_}
+use Rattle.model.specs.Stored.{tableIn}
 use Rattle.theory.specs.Cells.{classAt}
-use Rattle.theory.proofs.Decides.{decides-no}
-use Rattle.knowledge.proofs.AtCell.{left-end, right-end, newly-decides, left-cell, right-cell}
+use Rattle.theory.proofs.Decides.{decides-yes, decides-no}
+use Rattle.knowledge.specs.Sweeps.{Adds}
+use Rattle.knowledge.proofs.AtCell.{part-cell, newly-given, newly-made}
+use borrow.Author.Needs.{needs}
 use Rattle.knowledge.proofs.newly.Statement.{statement}
 use Rattle.knowledge.proofs.newly.Tie as tie
 
--- Where the classes of the parts are known.
-abbrev start : tie.After-part-classes → tie.Start
-start q = q .before .before .before .before .before .before .before .before
-
-abbrev table : tie.After-part-classes → Table
-table q = let a = start q .args in tableAt (a .kind .now) (a .first .now) (a .second .now)
-
-stands : (q : tie.After-part-classes) → classAt (start q .args .rep .now) (start q .args .c) ≡ start q .args .c
-stands q = sym (q .before .before .before .before .before .before .before .class-of .ensures) ∙ q .before .before .before .before .before .before .if1 .left
-
-left : (q : tie.After-part-classes) → q .part-classes .result .left < 129
-left q = left-end (start q .pre .1 .0) (table q) (start q .args .c) (q .part-classes .ensures .0)
-
-right : (q : tie.After-part-classes) → q .part-classes .result .right < 129
-right q = right-end (start q .pre .1 .0) (table q) (start q .args .c) (q .part-classes .ensures .1)
+-- Past the first test the cell stands for its class.
+stands : (o : tie.Else1) → classAt (o .before .before .args .rep .now) (o .before .before .args .c) ≡ o .before .before .args .c
+stands o = sym (o .before .class-of .ensures) ∙ o .if1 .left
 
 class-of-requires : tie.Need-class-of-requires
 class-of-requires c κs = search needs
@@ -38,39 +25,43 @@ element-copy-out-if2 c = search needs
 returns-2 : tie.Need-returns-2
 returns-2 c = decides-no (λ w. w .new (c .if2 .taken))
 
-element-copy-out-k : tie.Need-element-copy-out-k
-element-copy-out-k c = search needs
-
-element-copy-out-f : tie.Need-element-copy-out-f
-element-copy-out-f c = search needs
-
-element-copy-out-s : tie.Need-element-copy-out-s
-element-copy-out-s c = search needs
-
-part-classes-requires : tie.Need-part-classes-requires
-part-classes-requires c κs =
-    let s = c .before .before .before .before .before .before .before in
-    (left-cell (s .pre .0) (s .args .c) (s .pre .1 .1), right-cell (s .pre .0) (s .args .c) (s .pre .1 .1))
-
-element-copy-out-composed : tie.Need-element-copy-out-composed
-element-copy-out-composed c = search needs
-
-element-copy-out-composed-2 : tie.Need-element-copy-out-composed-2
-element-copy-out-composed-2 c = left (c .before)
-
-element-copy-out-composed-3 : tie.Need-element-copy-out-composed-3
-element-copy-out-composed-3 c = right (c .before .before)
-
-composed-requires : tie.Need-composed-requires
-composed-requires c κs = search needs
+element-copy-out-if3 : tie.Need-element-copy-out-if3
+element-copy-out-if3 c = search needs
 
 returns-3 : tie.Need-returns-3
 returns-3 c =
-    let q = c .before .before .before .before in
-    let a = start q .args in
-    let e = q .part-classes in
-    newly-decides (table q) (a .rep .now) (a .seen .now) (a .built .now) (a .c) (e .result .left) (e .result .right) (e .ensures .0) (e .ensures .1)
-    (stands q) (q .before .before .before .before .if2 .left) (c .composed .ensures)
+    let e = c .before .before in
+    decides-yes (record { stands = stands (e .before .before); new = e .if2 .left; adds = Adds.had (c .if3 .taken) })
+
+cell-within-requires : tie.Need-cell-within-requires
+cell-within-requires c κs = search needs
+
+is-given-requires : tie.Need-is-given-requires
+is-given-requires c κs = search needs
+
+returns-4 : tie.Need-returns-4
+returns-4 c =
+    let q = c .before .before in
+    let e = q .before .before .before in
+    let a = e .before .before .before .before .args in
+    newly-given (tableIn (a .table .now)) (a .rep .now) (a .seen .now) (a .built .now) (a .c) (q .cell-within .ensures) (stands (e .before .before)) (e .if2 .left)
+    (c .before .is-given .ensures .yes (c .if4 .taken))
+
+is-made-requires : tie.Need-is-made-requires
+is-made-requires c κs =
+    let q = c .before .before in
+    let s = q .before .before .before .before .before .before .before in
+    (s .pre .1 .0, part-cell (s .pre .0) (s .args .c) (s .pre .1 .1) (q .cell-within .ensures))
+
+returns-5 : tie.Need-returns-5
+returns-5 c =
+    let g = c .before .before in
+    let q = g .before in
+    let f = q .before in
+    let e = f .before .before in
+    let a = e .before .before .before .before .args in
+    newly-made (tableIn (a .table .now)) (a .rep .now) (a .seen .now) (a .built .now) (a .c) (q .cell-within .ensures) (stands (e .before .before)) (e .if2 .left)
+    (f .if3 .left) (g .is-given .ensures .no (c .before .if4 .left)) (c .is-made .ensures)
 
 pub newly-spec : {M : Type 1} → statement M
 newly-spec =
@@ -80,12 +71,10 @@ newly-spec =
     returns
     element-copy-out-if2
     returns-2
-    element-copy-out-k
-    element-copy-out-f
-    element-copy-out-s
-    part-classes-requires
-    element-copy-out-composed
-    element-copy-out-composed-2
-    element-copy-out-composed-3
-    composed-requires
-    returns-3)
+    element-copy-out-if3
+    returns-3
+    cell-within-requires
+    is-given-requires
+    returns-4
+    is-made-requires
+    returns-5)

@@ -4,22 +4,21 @@ use mathlib.Core.Bool.{Bool}
 use mathlib.Core.Path.{subst}
 use borrow.Author.Tests.{not-true, not-false}
 use Rattle.model.specs.Case.{Table}
-use Rattle.model.specs.Stored.{tableAt}
-use Rattle.theory.proofs.Rows.{rows-beyond}
+use Rattle.model.specs.Stored.{tableIn}
 use Rattle.knowledge.specs.Sweeps.{missing, Turned}
 use Rattle.knowledge.proofs.Closing.{Between, between-none, between-turn, opened}
 use Rattle.knowledge.proofs.open_known.Statement.{statement}
 use Rattle.knowledge.proofs.open_known.Tie as tie
 
 abbrev Inv-loop : tie.InvT-loop
-Inv-loop kind first second n rep s₀ b₀ s b = Between (tableAt kind first second) rep s₀ b₀ s b
+Inv-loop table n rep s₀ b₀ s b = Between (tableIn table) rep s₀ b₀ s b
 
 abbrev μ-loop : tie.MeasureT-loop
-μ-loop kind first second n rep s₀ b₀ s b = missing s + missing b
+μ-loop table n rep s₀ b₀ s b = missing s + missing b
 
--- The table of the rows.
+-- The table of the words.
 abbrev table : tie.Start Inv-loop μ-loop → Table
-table s = tableAt (s .args .kind .now) (s .args .first .now) (s .args .second .now)
+table s = tableIn (s .args .table .now)
 
 own-marks-requires : tie.Need-own-marks-requires Inv-loop μ-loop
 own-marks-requires c κs = c .pre .1 .0
@@ -37,7 +36,7 @@ returns c =
     let o = t .before .before in
     let s = o .before in
     let r = t .sweep .result in
-    opened (table s) (s .pre .1 .0) (rows-beyond (s .pre .0)) (o .own-marks .ensures) (l .inv)
+    opened (table s) (s .pre .1 .0) (s .pre .0 .beyond) (o .own-marks .ensures) (l .inv)
     (subst (λ (ch : Bool). Turned (table s) (s .args .n) (s .args .rep .now) (l .s) (l .b) (r .seen) (r .built) ch) (not-true _ (c .if1 .taken)) (t .sweep .ensures))
 
 loop-less : tie.Need-loop-less Inv-loop μ-loop

@@ -5,24 +5,24 @@ use mathlib.Core.Path.{subst}
 use native.Mathlib.Omega.{arith}
 use borrow.Author.Needs.{needs}
 use Rattle.model.specs.Case.{Table}
-use Rattle.model.specs.Stored.{tableAt}
+use Rattle.model.specs.Stored.{tableIn}
 use Rattle.knowledge.specs.Sweeps.{Rising}
 use Rattle.knowledge.proofs.Sound.{rising-none, rising-skip, rising-mark}
 use Rattle.knowledge.proofs.rise.Statement.{statement}
 use Rattle.knowledge.proofs.rise.Tie as tie
 
 abbrev Inv-loop : tie.InvT-loop
-Inv-loop kind first second n rep seen built₀ changed₀ c₀ built changed c = (Rising (tableAt kind first second) rep seen built₀ built changed c) × (c ≤ n)
+Inv-loop table n rep seen built₀ changed₀ c₀ built changed c = (Rising (tableIn table) rep seen built₀ built changed c) × (c ≤ n)
 
 abbrev μ-loop : tie.MeasureT-loop
-μ-loop kind first second n rep seen built₀ changed₀ c₀ built changed c = n - c
+μ-loop table n rep seen built₀ changed₀ c₀ built changed c = n - c
 
--- The table of the rows.
+-- The table of the words.
 abbrev table : tie.Start Inv-loop μ-loop → Table
-table s = tableAt (s .args .kind .now) (s .args .first .now) (s .args .second .now)
+table s = tableIn (s .args .table .now)
 
 loop-holds : tie.Need-loop-holds Inv-loop μ-loop
-loop-holds c = (rising-none (table c) (c .pre .1 .0) (c .args .t6) (c .args .start) (search needs) (c .pre .1 .1), omega arith)
+loop-holds c = (rising-none (table c) (c .pre .1 .0) (c .args .t4) (c .args .start) (search needs) (c .pre .1 .1), omega arith)
 
 newly-requires : tie.Need-newly-requires Inv-loop μ-loop
 newly-requires c κs = search needs
@@ -44,8 +44,8 @@ loop-again c =
     let few = s .pre .0 .few in (
       ⊎-elim
           (λ x. rw (x .1, x .2)
-          (rising-mark (table s) (s .pre .1 .0) (s .args .t6) (s .args .start) (l .loop .c) (l .loop .inv .0) (omega arith) (q .newly .ensures .yes (x .0 .taken))))
-          (λ x. rw (x .1, x .2) (rising-skip (table s) (s .pre .1 .0) (s .args .t6) (s .args .start) (l .loop .c) (l .loop .inv .0) (q .newly .ensures .no (x .0 .left))))
+          (rising-mark (table s) (s .pre .1 .0) (s .args .t4) (s .args .start) (l .loop .c) (l .loop .inv .0) (omega arith) (q .newly .ensures .yes (x .0 .taken))))
+          (λ x. rw (x .1, x .2) (rising-skip (table s) (s .pre .1 .0) (s .args .t4) (s .args .start) (l .loop .c) (l .loop .inv .0) (q .newly .ensures .no (x .0 .left))))
           (c .if1 .came),
       omega arith,
     )
@@ -54,7 +54,7 @@ returns : tie.Need-returns Inv-loop μ-loop
 returns c =
     let l = c .before in
     let s = l .before in
-    subst (λ (i : ℕ). Rising (table s) (s .args .rep .now) (s .args .t6) (s .args .start) (l .loop .built) (l .loop .changed) i) (omega arith) (l .loop .inv .0)
+    subst (λ (i : ℕ). Rising (table s) (s .args .rep .now) (s .args .t4) (s .args .start) (l .loop .built) (l .loop .changed) i) (omega arith) (l .loop .inv .0)
 
 pub rise-spec : {M : Type 1} → statement M
 rise-spec =

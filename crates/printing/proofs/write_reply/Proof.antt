@@ -1,7 +1,8 @@
--- The reply to the run, told in lines; the counts and the kinds are those of the file that was read.
+-- The reply to the run, told in lines; the counts and the table are those of the file that was read.
 use mathlib.Core.Path.{refl, sym, subst}
 use native.Mathlib.Omega.{arith}
 use denote.Ref.{now}
+use Rattle.model.proofs.Accepted.{Bytes}
 use Rattle.printing.specs.Lines.{Lines}
 use Rattle.printing.proofs.PromiseLaws.{run-refused, run-no, run-yes, case-few, no-text, yes-text, promise-short, promise-written}
 use borrow.Author.Needs.{needs}
@@ -91,7 +92,8 @@ returns-4 c =
     let i = q .before .before in
     let a = i .before .before .before .args in
     let (f, e, l, right, k) = run-yes (now (a .file)) _ _ refl (q .run .result) (q .run .ensures) _ (c .before .before .before .before .before .before .before .before .solved2 .given .1) in
-    let told = yes-text (now (a .file)) (r .read-case .result) (r .read-case .ensures) f e l _ _ (right .0 .size) k in
+    let bytes : Bytes (now (a .file)) = λ j. omega (arith, i .before .before .shared-slice-known .given j) in
+    let told = yes-text (now (a .file)) (r .read-case .result) (r .read-case .ensures) f e bytes l _ _ (right .0 .size) k in
     promise-written (i .if1 .left) (subst (Lines (now (a .file))) (sym told) (Lines.yes f l e right)) (c .before .before .put-yes .ensures)
 
 pub write-reply-spec : {M : Type 1} → statement M

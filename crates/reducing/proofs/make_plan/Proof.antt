@@ -1,5 +1,8 @@
 -- The steps' contracts joined: what is bare, kept, numbered and laid is the reduced file.
+use mathlib.Core.Path.{refl}
+use native.Mathlib.Omega.{arith}
 use denote.Ref.{now}
+use Rattle.reducing.proofs.PartLaws.{low-at}
 use Rattle.reducing.proofs.ReducedLaws.{keeps-whole, plan-sized, plan-reduced}
 use Rattle.reducing.proofs.make_plan.Statement.{statement}
 use Rattle.reducing.proofs.make_plan.Tie as tie
@@ -21,25 +24,28 @@ order-requires c κs =
     let a = s .args in (
       s .pre,
       c .heights .ensures,
-      keeps-whole (a .n) (now (a .kind)) (now (a .first)) (now (a .second)) (now (a .rep)) (now (a .built)) (b .bare .result) (k .keep .result) (s .pre) (b .bare .ensures) (k .keep .ensures),
+      keeps-whole (a .n) (now (a .table)) (now (a .rep)) (now (a .built)) (b .bare .result) (k .keep .result) (s .pre) (b .bare .ensures) (k .keep .ensures),
     )
 
 lay-requires : tie.Need-lay-requires
 lay-requires c κs =
-    let o = c .before .before in
-    let k = o .before .before in
-    (k .before .before .pre, o .order .ensures .few, λ j h. k .keep .ensures .below _ (o .order .ensures .kept j h))
+    let k = c .before .before in
+    let g = k .before .before .pre in
+    let below = k .keep .ensures .below in (
+      (g .classes .low, λ d. low-at (g .rows) d refl),
+      (omega (arith, c .order .ensures .few, g .rows .few), λ j h. omega (arith, g .rows .few, below _ (c .order .ensures .kept j h))),
+    )
 
 returns : tie.Need-returns
 returns c =
-    let o = c .before .before .before in
+    let o = c .before in
     let k = o .before .before in
     let b = k .before in
     let s = b .before in
     let a = s .args in (
-      plan-sized (a .n) (now (a .kind)) (now (a .first)) (now (a .second)) (now (a .rep)) (now (a .built)) (b .bare .result) (k .keep .result) (s .pre) (b .bare .ensures) (k .keep .ensures)
+      plan-sized (a .n) (now (a .table)) (now (a .rep)) (now (a .built)) (b .bare .result) (k .keep .result) (s .pre) (b .bare .ensures) (k .keep .ensures)
           (o .order .result .old) (o .order .result .new) (o .order .result .count) (c .lay .result) (o .order .ensures) (c .lay .ensures),
-      plan-reduced (a .n) (now (a .kind)) (now (a .first)) (now (a .second)) (now (a .rep)) (now (a .built)) (b .bare .result) (k .keep .result) (s .pre) (b .bare .ensures) (k .keep .ensures)
+      plan-reduced (a .n) (now (a .table)) (now (a .rep)) (now (a .built)) (b .bare .result) (k .keep .result) (s .pre) (b .bare .ensures) (k .keep .ensures)
           (o .order .result .old) (o .order .result .new) (o .order .result .count) (c .lay .result) (o .order .ensures) (c .lay .ensures),
     )
 

@@ -2,7 +2,7 @@
 use denote.Ref.{now}
 use borrow.Author.Needs.{needs}
 use Rattle.reducing.proofs.RunLaws.{run-given, run-plans}
-use Rattle.model.specs.Stored.{runAt}
+use Rattle.model.specs.Stored.{runIn}
 use Rattle.reducing.proofs.plan_run.Statement.{statement}
 use Rattle.reducing.proofs.plan_run.Tie as tie
 
@@ -14,7 +14,7 @@ make-plan-requires c κs =
     let o = c .before .before .before .before in
     let s = o .before in
     let a = s .args in
-    run-given (a .n) (now (a .kind)) (now (a .first)) (now (a .second)) (s .pre .0) (s .pre .1 .0) (runAt (a .count) (now (a .asks)) (now (a .aims))) (o .open-heard .result) (o .open-heard .ensures)
+    run-given (a .n) (now (a .table)) (s .pre .0) (s .pre .1 .0) (runIn (a .count) (now (a .run))) (o .open-heard .result) (o .open-heard .ensures)
 
 returns : tie.Need-returns
 returns c =
@@ -22,8 +22,8 @@ returns c =
     let s = o .before in
     let a = s .args in (
       c .make-plan .ensures .0,
-      run-plans (a .n) (now (a .kind)) (now (a .first)) (now (a .second)) (s .pre .0) (s .pre .1 .0) (runAt (a .count) (now (a .asks)) (now (a .aims)))
-          (o .open-heard .result) (o .open-heard .ensures) (c .make-plan .result) (c .make-plan .ensures .1),
+      run-plans (a .n) (now (a .table)) (s .pre .0) (s .pre .1 .0) (runIn (a .count) (now (a .run))) (o .open-heard .result) (o .open-heard .ensures)
+          (c .make-plan .result) (c .make-plan .ensures .1),
     )
 
 pub plan-run-spec : {M : Type 1} → statement M

@@ -3,9 +3,9 @@ use Prim.Native.Nat.{ℕ}
 use mathlib.Core.List.{List}
 use native.Mathlib.Omega.{arith}
 use borrow.Author.Needs.{needs}
-use Rattle.theory.specs.Cells.{Rows}
+use Rattle.model.proofs.Accepted.{Bytes}
 use Rattle.casefile.specs.declared.Case.{Case}
-use Rattle.casefile.proofs.CaseFile.{CaseFile, case-refused, case-accepted, case-variable, case-rows, case-events}
+use Rattle.casefile.proofs.CaseFile.{CaseFile, case-refused, case-accepted, case-variable, case-words, case-events}
 use Rattle.reducing.proofs.PromiseLaws.{promise-refused, promise-variable}
 use Rattle.reducing.proofs.CaseLaws.{case-solid, answer-short, answer-reduced}
 use Rattle.reducing.proofs.reduce.Statement.{statement}
@@ -21,13 +21,12 @@ buffer c = c .before .before .before .args .out .now
 abbrev reply : tie.After-read-case → Case
 reply c = c .read-case .result
 
--- Where the file is accepted, the reply is that of the file, and its rows are rows of a table.
+-- Where the file is accepted, the reply is that of the file, and its words are those of a table.
 case : (c : tie.After-enum-told) → CaseFile (bytes (c .before .before)) (reply (c .before .before))
 case c = let r = c .before .before in case-accepted (bytes r) (reply r) (r .read-case .ensures) (c .enum-told .given .1)
 
-rows : (c : tie.After-enum-told) →
-    Rows (reply (c .before .before) .table .cells) (reply (c .before .before) .table .kind) (reply (c .before .before) .table .first) (reply (c .before .before) .table .second)
-rows c = case-rows (case c) (λ i. omega (arith, c .before .before .before .before .shared-slice-known .given i))
+fits : (c : tie.After-enum-told) → Bytes (bytes (c .before .before))
+fits c = λ i. omega (arith, c .before .before .before .before .shared-slice-known .given i)
 
 read-case-requires : tie.Need-read-case-requires
 read-case-requires c κs = search needs
@@ -57,9 +56,9 @@ enum-told-2 c = search needs
 
 plan-run-requires : tie.Need-plan-run-requires
 plan-run-requires c κs =
-    let v = c .before .before .before .before .before .before .before .before .before in
+    let v = c .before .before .before .before .before .before in
     let d = v .before .before in
-    (rows d, (case-solid (case d) (v .enum-told2 .given .1), case-events (case d)))
+    (case-words (case d) (fits d), (case-solid (case d) (fits d) (v .enum-told2 .given .1), case-events (case d)))
 
 needed-requires : tie.Need-needed-requires
 needed-requires c κs = search needs
@@ -67,9 +66,9 @@ needed-requires c κs = search needs
 returns-3 : tie.Need-returns-3
 returns-3 c =
     let o = c .before .before in
-    let v = o .before .before .before .before .before .before .before .before .before .before in
+    let v = o .before .before .before .before .before .before .before in
     let d = v .before .before in
-    answer-short (case d) (v .enum-told2 .given .1) (o .plan-run .ensures .0) (o .plan-run .ensures .1) (buffer (d .before .before)) _ (c .before .needed .ensures .1) (c .if1 .taken)
+    answer-short (case d) (fits d) (v .enum-told2 .given .1) (o .plan-run .ensures .0) (o .plan-run .ensures .1) (buffer (d .before .before)) _ (c .before .needed .ensures .1) (c .if1 .taken)
 
 write-plan-requires : tie.Need-write-plan-requires
 write-plan-requires c κs = search needs
@@ -82,9 +81,9 @@ returns-4 c =
     let y = c .before .before in
     let l = y .before .before in
     let o = l .before .before in
-    let v = o .before .before .before .before .before .before .before .before .before .before in
+    let v = o .before .before .before .before .before .before .before in
     let d = v .before .before in
-    answer-reduced (case d) (v .enum-told2 .given .1) (o .plan-run .ensures .0) (o .plan-run .ensures .1) (buffer (d .before .before)) _ _ (l .before .needed .ensures .1) (l .if1 .left)
+    answer-reduced (case d) (fits d) (v .enum-told2 .given .1) (o .plan-run .ensures .0) (o .plan-run .ensures .1) (buffer (d .before .before)) _ _ (l .before .needed .ensures .1) (l .if1 .left)
     (y .write-plan .ensures)
 
 pub reduce-spec : {M : Type 1} → statement M

@@ -2,7 +2,8 @@
 use native.Mathlib.Omega.{arith}
 use borrow.Author.Tests.{not-true, not-false}
 use denote.Ref.{now}
-use Rattle.casefile.proofs.CaseFile.{case-refused, case-accepted, case-rows, case-events}
+use Rattle.model.proofs.Accepted.{Bytes}
+use Rattle.casefile.proofs.CaseFile.{case-refused, case-accepted, case-words, case-events}
 use Rattle.running.proofs.PromiseLaws.{case-formed, case-few, promise-refused, reply-short, reply-no, reply-yes}
 use borrow.Author.Needs.{needs}
 use Rattle.running.proofs.run.Statement.{statement}
@@ -33,25 +34,27 @@ returns-2 c =
 
 solve-requires : tie.Need-solve-requires
 solve-requires c κs =
-    let t = c .before .before .before .before .before .before .before .before .before .before in
+    let t = c .before .before .before .before .before .before .before in
     let r = t .before .before in
     let a = r .before .before .before .args in
     let w = case-accepted (now (a .file)) (r .read-case .result) (r .read-case .ensures) (t .enum-told .given .1) in
-    (case-rows w (λ i. omega (arith, r .before .before .shared-slice-known .given i)), (case-events w, case-formed w))
+    let b : Bytes (now (a .file)) = λ i. omega (arith, r .before .before .shared-slice-known .given i) in
+    (case-words w b, (case-events w, case-formed w b))
 
 returns-3 : tie.Need-returns-3
 returns-3 c =
     let q = c .before .before in
-    let i = q .before .before .before .before .before .before .before .before in
+    let i = q .before .before .before .before .before in
     let t = i .before .before .before in
     let r = t .before .before in
     let a = r .before .before .before .args in
     let w = case-accepted (now (a .file)) (r .read-case .result) (r .read-case .ensures) (t .enum-told .given .1) in
-    reply-no w (now (a .out)) (i .if1 .left) (q .solve .result) (q .solve .ensures) (not-true _ (c .if2 .taken))
+    let b : Bytes (now (a .file)) = λ i. omega (arith, r .before .before .shared-slice-known .given i) in
+    reply-no w (now (a .out)) b (i .if1 .left) (q .solve .result) (q .solve .ensures) (not-true _ (c .if2 .taken))
 
 write-list-requires : tie.Need-write-list-requires
 write-list-requires c κs =
-    let i = c .before .before .before .before .before .before .before .before .before .before .before .before in
+    let i = c .before .before .before .before .before .before .before .before .before in
     let t = i .before .before .before in
     let r = t .before .before in
     let a = r .before .before .before .args in
@@ -65,12 +68,13 @@ returns-4 : tie.Need-returns-4
 returns-4 c =
     let e = c .before .before .before .before .before in
     let q = e .before .before in
-    let i = q .before .before .before .before .before .before .before .before in
+    let i = q .before .before .before .before .before in
     let t = i .before .before .before in
     let r = t .before .before in
     let a = r .before .before .before .args in
     let w = case-accepted (now (a .file)) (r .read-case .result) (r .read-case .ensures) (t .enum-told .given .1) in
-    reply-yes w (now (a .out)) (i .if1 .left) (q .solve .result) (q .solve .ensures) (not-false _ (e .if2 .left)) _ (c .before .before .write-list .ensures)
+    let b : Bytes (now (a .file)) = λ i. omega (arith, r .before .before .shared-slice-known .given i) in
+    reply-yes w (now (a .out)) b (i .if1 .left) (q .solve .result) (q .solve .ensures) (not-false _ (e .if2 .left)) _ (c .before .before .write-list .ensures)
 
 pub run-spec : {M : Type 1} → statement M
 run-spec =

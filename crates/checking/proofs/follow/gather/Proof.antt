@@ -1,17 +1,17 @@
 -- The loop's invariant: exactly those messages satisfy the classes that follow the list below c.
 use native.Mathlib.Omega.{arith}
 use Prim.Native.Nat.{_≤_, _-_}
-use Rattle.model.specs.Stored.{tableAt}
+use Rattle.model.specs.Stored.{tableIn}
 use Rattle.theory.proofs.Rows.{rows-var}
 use Rattle.checking.proofs.FollowLaws.{Gathering, gathering-none, gathering-more, gathering-all}
 use Rattle.checking.proofs.follow.gather.Statement.{statement}
 use Rattle.checking.proofs.follow.gather.Tie as tie
 
 abbrev Inv-loop : tie.InvT-loop
-Inv-loop kind first second n list rep₀ c₀ rep c = Gathering n (tableAt kind first second) list rep c × (c ≤ n)
+Inv-loop table n list rep₀ c₀ rep c = Gathering n (tableIn table) list rep c × (c ≤ n)
 
 abbrev μ-loop : tie.MeasureT-loop
-μ-loop kind first second n list rep₀ c₀ rep c = n - c
+μ-loop table n list rep₀ c₀ rep c = n - c
 
 start-requires : tie.Need-start-requires Inv-loop μ-loop
 start-requires c κs = c .before .pre .0
@@ -41,7 +41,7 @@ loop-again : tie.Need-loop-again Inv-loop μ-loop
 loop-again c =
     let l = c .before .before .before in
     let a = l .before .before .before .args in (
-      gathering-more (a .n) (tableAt (a .kind .now) (a .first .now) (a .second .now)) (a .list .now) (l .loop .rep) (l .loop .c) (l .loop .inv .0) (c .bind-entry .result)
+      gathering-more (a .n) (tableIn (a .table .now)) (a .list .now) (l .loop .rep) (l .loop .c) (l .loop .inv .0) (c .bind-entry .result)
           (c .bind-entry .ensures),
       omega arith,
     )
@@ -51,7 +51,7 @@ returns c =
     let l = c .before in
     let s = l .before .before .before in
     let a = s .args in
-    gathering-all (a .n) (tableAt (a .kind .now) (a .first .now) (a .second .now)) (a .list .now) (l .loop .rep) (l .loop .c) (l .loop .inv .0)
+    gathering-all (a .n) (tableIn (a .table .now)) (a .list .now) (l .loop .rep) (l .loop .c) (l .loop .inv .0)
     (λ v i. let h = rows-var (s .pre .0) v i in omega arith)
 
 pub gather-spec : {M : Type 1} → statement M

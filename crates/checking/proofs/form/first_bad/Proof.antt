@@ -4,15 +4,17 @@ use borrow.Author.Needs.{needs}
 use borrow.Author.Tests.{not-true, not-false}
 use borrow.Author.Count.{below-more}
 use Prim.Native.Nat.{ℕ, _≤_, _<_, _-_}
-use Rattle.checking.specs.Form.{Good}
+use lib.ListN.{getD}
+use Rattle.model.specs.Stored.{tableIn}
+use Rattle.model.specs.Values.{Entry}
 use Rattle.checking.proofs.form.first_bad.Statement.{statement}
 use Rattle.checking.proofs.form.first_bad.Tie as tie
 
 abbrev Inv-loop : tie.InvT-loop
-Inv-loop kind n list c₀ c = (c ≤ n) × ((d : ℕ) → d < c → Good kind n list d)
+Inv-loop table n list c₀ c = (c ≤ n) × ((d : ℕ) → d < c → Entry (tableIn table) n d (getD list d 0))
 
 abbrev μ-loop : tie.MeasureT-loop
-μ-loop kind n list c₀ c = n - c
+μ-loop table n list c₀ c = n - c
 
 loop-holds : tie.Need-loop-holds Inv-loop μ-loop
 loop-holds c = (omega arith, λ d h. absurd (omega arith))
@@ -40,7 +42,7 @@ loop-again c =
     let q = c .before in
     let l = q .before .before .before in
     let a = l .before .before .args in
-    (omega arith, below-more (Good (a .kind .now) (a .n) (a .list .now)) (l .loop .c) (l .loop .inv .1) (q .fits2 .ensures .yes (not-false _ (c .if1 .left))))
+    (omega arith, below-more (λ d. Entry (tableIn (a .table .now)) (a .n) d (getD (a .list .now) d 0)) (l .loop .c) (l .loop .inv .1) (q .fits2 .ensures .yes (not-false _ (c .if1 .left))))
 
 returns-2 : tie.Need-returns-2 Inv-loop μ-loop
 returns-2 c = record { low = omega arith; good = λ d h. c .before .loop .inv .1 d (omega arith); bad = λ h. absurd (omega arith) }

@@ -4,17 +4,17 @@ use borrow.Author.Tests.{not-true, not-false}
 use mathlib.Core.Path.{subst}
 use mathlib.Core.Bool.{Bool}
 use Prim.Native.Nat.{_-_}
-use Rattle.model.specs.Stored.{tableAt, runAt}
+use Rattle.model.specs.Stored.{tableIn, runIn}
 use Rattle.checking.specs.Made.{MadeAt}
 use Rattle.checking.proofs.MadeLaws.{Making, making-more, making-no, making-all}
 use Rattle.checking.proofs.made.all_made.Statement.{statement}
 use Rattle.checking.proofs.made.all_made.Tie as tie
 
 abbrev Inv-loop : tie.InvT-loop
-Inv-loop kind first second n rep asks aim count p₀ p = Making (tableAt kind first second) rep (runAt count asks aim) p
+Inv-loop table n rep run count p₀ p = Making (tableIn table) rep (runIn count run) p
 
 abbrev μ-loop : tie.MeasureT-loop
-μ-loop kind first second n rep asks aim count p₀ p = count - p
+μ-loop table n rep run count p₀ p = count - p
 
 loop-holds : tie.Need-loop-holds Inv-loop μ-loop
 loop-holds c = λ q h. absurd (omega arith)
@@ -29,8 +29,8 @@ returns c =
     let q = c .before in
     let l = q .before .before in
     let a = l .before .args in
-    making-no (tableAt (a .kind .now) (a .first .now) (a .second .now)) (a .rep .now) (a .count) (a .asks .now) (a .aim .now) (l .loop .p)
-    (subst (λ (b : Bool). MadeAt (tableAt (a .kind .now) (a .first .now) (a .second .now)) (a .rep .now) (runAt (a .count) (a .asks .now) (a .aim .now)) (l .loop .p) b) (not-true _ (c .if1 .taken)) (q .made-at .ensures))
+    making-no (tableIn (a .table .now)) (a .rep .now) (a .count) (a .run .now) (l .loop .p)
+    (subst (λ (b : Bool). MadeAt (tableIn (a .table .now)) (a .rep .now) (runIn (a .count) (a .run .now)) (l .loop .p) b) (not-true _ (c .if1 .taken)) (q .made-at .ensures))
 
 add-p : tie.Need-add-p Inv-loop μ-loop
 add-p c = omega arith
@@ -43,14 +43,14 @@ loop-again c =
     let q = c .before in
     let l = q .before .before in
     let a = l .before .args in
-    making-more (tableAt (a .kind .now) (a .first .now) (a .second .now)) (a .rep .now) (a .count) (a .asks .now) (a .aim .now) (l .loop .p) (l .loop .inv)
-    (subst (λ (b : Bool). MadeAt (tableAt (a .kind .now) (a .first .now) (a .second .now)) (a .rep .now) (runAt (a .count) (a .asks .now) (a .aim .now)) (l .loop .p) b) (not-false _ (c .if1 .left)) (q .made-at .ensures))
+    making-more (tableIn (a .table .now)) (a .rep .now) (a .count) (a .run .now) (l .loop .p) (l .loop .inv)
+    (subst (λ (b : Bool). MadeAt (tableIn (a .table .now)) (a .rep .now) (runIn (a .count) (a .run .now)) (l .loop .p) b) (not-false _ (c .if1 .left)) (q .made-at .ensures))
 
 returns-2 : tie.Need-returns-2 Inv-loop μ-loop
 returns-2 c =
     let l = c .before in
     let a = l .before .args in
-    making-all (tableAt (a .kind .now) (a .first .now) (a .second .now)) (a .rep .now) (a .count) (a .asks .now) (a .aim .now) (l .loop .p) (l .loop .inv) (omega arith)
+    making-all (tableIn (a .table .now)) (a .rep .now) (a .count) (a .run .now) (l .loop .p) (l .loop .inv) (omega arith)
 
 pub all-made-spec : {M : Type 1} → statement M
 all-made-spec =

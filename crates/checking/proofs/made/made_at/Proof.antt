@@ -1,69 +1,67 @@
 -- An LN asks for nothing; an MK is built exactly if its class is marked so, from the marks of what was learnt before it.
-use mathlib.Core.Path.{_∙_, ap}
+use Prim.Native.Nat.{_<_}
+use mathlib.Core.Path.{sym, _∙_, ap, subst}
 use native.Mathlib.Omega.{arith}
 use borrow.Author.Needs.{needs}
-use Rattle.model.specs.Stored.{tableAt}
-use Rattle.theory.specs.Cells.{classAt}
+use Rattle.model.specs.Case.{Event}
+use Rattle.model.specs.Stored.{tableIn, aim}
+use Rattle.cells.specs.Cells.{asEvent}
 use Rattle.checking.proofs.MadeLaws.{made-learn, made-make}
 use Rattle.checking.proofs.made.made_at.Statement.{statement}
 use Rattle.checking.proofs.made.made_at.Tie as tie
 
-element-copy-out-if1 : tie.Need-element-copy-out-if1
-element-copy-out-if1 c = search needs
+event-at-requires : tie.Need-event-at-requires
+event-at-requires c κs = search needs
 
-returns : tie.Need-returns
-returns c =
-    let s = c .before .before in
-    let a = s .args in
-    made-learn (tableAt (a .kind .now) (a .first .now) (a .second .now)) (a .rep .now) (a .count) (a .asks .now) (a .aim .now) (a .p) (s .pre .1 .1 .1) (c .if1 .taken)
+enum-known-event : tie.Need-enum-known-event
+enum-known-event c = search needs
 
 learnt-before-requires : tie.Need-learnt-before-requires
 learnt-before-requires c κs =
-    let s = c .before .before in
+    let s = c .before .before .before .before in
     (s .pre .0 .few, (s .pre .1 .0, (s .pre .1 .1 .0, omega arith)))
 
 open-known-requires : tie.Need-open-known-requires
 open-known-requires c κs = search needs
 
-element-copy-out-cell : tie.Need-element-copy-out-cell
-element-copy-out-cell c = search needs
+has-requires : tie.Need-has-requires
+has-requires c κs =
+    let k = c .before .before .before .before .before in
+    let e = k .before .before in
+    let s = e .before in
+    let h = subst (λ (v : Event). aim v < s .args .n) (sym (e .event-at .ensures) ∙ ap asEvent (k .event .given .1)) (s .pre .1 .1 .0 .below (s .args .p) (s .pre .1 .1 .1)) in
+    (s .pre .1 .0, omega (arith, s .pre .0 .few))
 
-cell-requires : tie.Need-cell-requires
-cell-requires c κs = search needs
+enum-told : tie.Need-enum-told
+enum-told c = search needs
 
-class-of-requires : tie.Need-class-of-requires
-class-of-requires c κs =
-    let s = c .before .before .before .before .before .before in
-    omega (arith, c .cell .ensures, s .pre .0 .few, s .pre .1 .1 .0 .below (s .args .p) (s .pre .1 .1 .1))
-
-array-read-result : tie.Need-array-read-result
-array-read-result c =
-    let q = c .before in
-    let s = q .before .before .before .before .before .before .before in
-    omega (arith, q .class-of .ensures, s .pre .1 .0 .low (q .before .cell .result))
+returns : tie.Need-returns
+returns c =
+    let o = c .before .before .before in
+    let l = o .before in
+    let k = l .before .before in
+    let e = k .before .before in
+    let s = e .before in
+    let a = s .args in
+    made-make (tableIn (a .table .now)) (a .rep .now) (a .count) (a .run .now) (a .p) (s .pre .1 .1 .1) (l .learnt-before .result) (o .open-known .result)
+    (sym (e .event-at .ensures) ∙ ap asEvent (k .event .given .1)) (l .learnt-before .ensures .starts (tableIn (a .table .now))) (o .open-known .ensures) (c .has .ensures)
 
 returns-2 : tie.Need-returns-2
 returns-2 c =
-    let q = c .before in
-    let o = q .before .before .before in
-    let l = o .before in
-    let i = l .before in
-    let s = i .before .before in
+    let e = c .before .before in
+    let s = e .before in
     let a = s .args in
-    made-make (tableAt (a .kind .now) (a .first .now) (a .second .now)) (a .rep .now) (a .count) (a .asks .now) (a .aim .now) (a .p) (s .pre .1 .1 .1) (l .learnt-before .result)
-    (q .class-of .result) (o .open-known .result) (i .if1 .left) (l .learnt-before .ensures .starts (tableAt (a .kind .now) (a .first .now) (a .second .now))) (o .open-known .ensures)
-    (q .class-of .ensures ∙ ap (classAt (a .rep .now)) (q .before .cell .ensures))
+    made-learn (tableIn (a .table .now)) (a .rep .now) (a .count) (a .run .now) (a .p) (s .pre .1 .1 .1) (sym (e .event-at .ensures) ∙ ap asEvent (c .enum-told .given .1))
 
 pub made-at-spec : {M : Type 1} → statement M
 made-at-spec =
     tie.close
     (tie.spec
-    element-copy-out-if1
-    returns
+    event-at-requires
+    enum-known-event
     learnt-before-requires
     open-known-requires
-    element-copy-out-cell
-    cell-requires
-    class-of-requires
-    array-read-result
+    has-requires
+    enum-told
+    returns
     returns-2)

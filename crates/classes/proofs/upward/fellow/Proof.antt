@@ -3,7 +3,7 @@ use native.Mathlib.Omega.{arith}
 use borrow.Author.Needs.{needs}
 use mathlib.Core.Path.{_≡_}
 use Prim.Native.Nat.{_≤_, _<_, _-_}
-use Rattle.model.specs.Stored.{tableAt}
+use Rattle.model.specs.Stored.{tableIn}
 use Rattle.theory.specs.Cells.{classAt}
 use Rattle.theory.specs.Classes.{Alike}
 use Rattle.classes.specs.Links.{Leads}
@@ -12,13 +12,13 @@ use Rattle.classes.proofs.upward.fellow.Statement.{statement}
 use Rattle.classes.proofs.upward.fellow.Tie as tie
 
 abbrev Inv-loop : tie.InvT-loop
-Inv-loop kind first second n rep links top c best₀ at₀ best at =
+Inv-loop table n rep links top c best₀ at₀ best at =
     (at ≤ c) × (best ≤ c) ×
-    (best < c → (classAt rep best ≡ best) × Alike (classAt rep) (tableAt kind first second c) (tableAt kind first second best)) ×
-    (Leads (tableAt kind first second) (classAt rep) links top c → Walk (tableAt kind first second) (classAt rep) c at best)
+    (best < c → (classAt rep best ≡ best) × Alike (classAt rep) (tableIn table c) (tableIn table best)) ×
+    (Leads (tableIn table) (classAt rep) links top c → Walk (tableIn table) (classAt rep) c at best)
 
 abbrev μ-loop : tie.MeasureT-loop
-μ-loop kind first second n rep links top c best₀ at₀ best at = at
+μ-loop table n rep links top c best₀ at₀ best at = at
 
 loop-holds : tie.Need-loop-holds Inv-loop μ-loop
 loop-holds c = (c .pre .1 .1 .0, search needs, λ h. absurd (omega arith), λ w. walk-start w)
@@ -33,7 +33,7 @@ element-copy-out-at : tie.Need-element-copy-out-at Inv-loop μ-loop
 element-copy-out-at c = let s = c .before .before in omega (arith, s .pre .0 .few, s .pre .1 .1 .1)
 
 is-fellow-requires : tie.Need-is-fellow-requires Inv-loop μ-loop
-is-fellow-requires c κs = c .before .before .before .pre .0
+is-fellow-requires c κs = search needs
 
 loop-less : tie.Need-loop-less Inv-loop μ-loop
 loop-less c = let l = c .before .before .before .before in omega (arith, l .before .pre .1 .0 (l .loop .at - 1))

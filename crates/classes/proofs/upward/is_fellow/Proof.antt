@@ -2,7 +2,7 @@
 use borrow.Author.Needs.{needs}
 use mathlib.Core.Path.{sym, _∙_}
 use mathlib.Core.Bool.{true≢false, false≢true}
-use Rattle.model.specs.Stored.{tableAt}
+use Rattle.model.specs.Stored.{tableIn}
 use Rattle.theory.specs.Cells.{classAt}
 use Rattle.classes.proofs.DifferLaws.{told-apart}
 use Rattle.classes.proofs.Tags.{tag-apart}
@@ -25,7 +25,7 @@ returns-2 : tie.Need-returns-2
 returns-2 c =
     let q = c .before in
     let a = q .before .before .before .args in
-    let T = tableAt (a .kind .now) (a .first .now) (a .second .now) in
+    let T = tableIn (a .table .now) in
     record {
       yes = λ e. absurd (false≢true e);
       no = λ _ _. told-apart (classAt (a .rep .now)) (T (a .c)) (T (a .d)) (q .compare .result) (q .compare .ensures) (tag-apart _ (c .match .keys2));

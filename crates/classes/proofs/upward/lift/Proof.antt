@@ -3,7 +3,7 @@
 use native.Mathlib.Omega.{arith}
 use Prim.Native.Nat.{_≤_, _-_}
 use mathlib.Core.Path.{_≡_, subst}
-use Rattle.model.specs.Stored.{tableAt}
+use Rattle.model.specs.Stored.{tableIn}
 use Rattle.classes.specs.Upward.{Lifts}
 use Rattle.classes.proofs.LinkLaws.{down-none}
 use Rattle.classes.proofs.UpwardLaws.{Lifting, lifting-none, lifting-more, lifting-stay}
@@ -11,11 +11,11 @@ use Rattle.classes.proofs.upward.lift.Statement.{statement}
 use Rattle.classes.proofs.upward.lift.Tie as tie
 
 abbrev Inv-loop : tie.InvT-loop
-Inv-loop kind first second n rep₀ tops₀ links₀ changed₀ c₀ rep tops links changed c =
-    Lifting n (tableAt kind first second) rep₀ c rep tops links changed × (c ≤ n)
+Inv-loop table n rep₀ tops₀ links₀ changed₀ c₀ rep tops links changed c =
+    Lifting n (tableIn table) rep₀ c rep tops links changed × (c ≤ n)
 
 abbrev μ-loop : tie.MeasureT-loop
-μ-loop kind first second n rep₀ tops₀ links₀ changed₀ c₀ rep tops links changed c = n - c
+μ-loop table n rep₀ tops₀ links₀ changed₀ c₀ rep tops links changed c = n - c
 
 loop-holds : tie.Need-loop-holds Inv-loop μ-loop
 loop-holds c = (lifting-none (c .pre .1) down-none, omega arith)
@@ -56,7 +56,7 @@ returns c =
     let a = l .before .args in
     let v = l .loop in
     let end : v .c ≡ a .n = omega arith in
-    subst (λ k. Lifts (a .n) (tableAt (a .kind .now) (a .first .now) (a .second .now)) (a .start) k (v .rep) (v .changed)) end (v .inv .0 .lifts)
+    subst (λ k. Lifts (a .n) (tableIn (a .table .now)) (a .start) k (v .rep) (v .changed)) end (v .inv .0 .lifts)
 
 pub lift-spec : {M : Type 1} → statement M
 lift-spec =

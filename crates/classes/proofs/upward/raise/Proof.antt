@@ -4,7 +4,7 @@ use mathlib.Core.Path.{_≡_, sym, subst}
 use mathlib.Core.Bool.{false}
 use mathlib.Core.List.{List}
 use Prim.Native.Nat.{ℕ}
-use Rattle.model.specs.Stored.{tableAt}
+use Rattle.model.specs.Stored.{tableIn}
 use Rattle.theory.specs.Cells.{classAt}
 use Rattle.theory.specs.Classes.{Alike}
 use Rattle.classes.specs.Kept.{classCount, Solved}
@@ -14,10 +14,10 @@ use Rattle.classes.proofs.upward.raise.Statement.{statement}
 use Rattle.classes.proofs.upward.raise.Tie as tie
 
 abbrev Inv-loop : tie.InvT-loop
-Inv-loop kind first second n rep₀ rep = Stage (tableAt kind first second) (Solved n (tableAt kind first second)) rep₀ rep
+Inv-loop table n rep₀ rep = Stage (tableIn table) (Solved n (tableIn table)) rep₀ rep
 
 abbrev μ-loop : tie.MeasureT-loop
-μ-loop kind first second n rep₀ rep = classCount rep
+μ-loop table n rep₀ rep = classCount rep
 
 loop-holds : tie.Need-loop-holds Inv-loop μ-loop
 loop-holds c = stage-none (c .pre .1)
@@ -31,7 +31,7 @@ returns c =
     let l = q .before in
     let s = l .before in
     let a = s .args in
-    let T = tableAt (a .kind .now) (a .first .now) (a .second .now) in
+    let T = tableIn (a .table .now) in
     let r = q .lift .result in
     let quiet : r .changed ≡ false = not-true _ (c .if1 .taken) in
     let moved = q .lift .ensures .moved in

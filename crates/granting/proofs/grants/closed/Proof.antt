@@ -8,10 +8,10 @@ use Rattle.granting.proofs.grants.closed.Statement.{statement}
 use Rattle.granting.proofs.grants.closed.Tie as tie
 
 abbrev Inv-loop : tie.InvT-loop
-Inv-loop kind first second n rep ekind ecell p s₀ b₀ s b = More rep s₀ b₀ s b
+Inv-loop table n rep run p m₀ m = More rep (m₀ .seen) (m₀ .built) (m .seen) (m .built)
 
 abbrev μ-loop : tie.MeasureT-loop
-μ-loop kind first second n rep ekind ecell p s₀ b₀ s b = missing s + missing b
+μ-loop table n rep run p m₀ m = missing (m .seen) + missing (m .built)
 
 loop-holds : tie.Need-loop-holds Inv-loop μ-loop
 loop-holds c = more-none (c .pre .1 .1 .1 .0) (c .pre .1 .1 .1 .1)
@@ -25,9 +25,7 @@ returns c =
     record { more = more-more (t .before .loop .inv) (t .round .ensures .more); still = t .round .ensures .still (not-true _ (c .if1 .taken)) }
 
 loop-less : tie.Need-loop-less Inv-loop μ-loop
-loop-less c =
-    let c4 = c .before .before .before .before in
-    c4 .round .ensures .moved (not-false _ (c .if1 .left))
+loop-less c = c .before .before .before .before .round .ensures .moved (not-false _ (c .if1 .left))
 
 loop-again : tie.Need-loop-again Inv-loop μ-loop
 loop-again c =

@@ -4,19 +4,19 @@ use mathlib.Core.Path.{subst}
 use Prim.Native.Nat.{ℕ, _≤_, _-_}
 use native.Mathlib.Omega.{arith}
 use borrow.Author.Needs.{needs}
-use Rattle.model.specs.Stored.{tableAt}
+use Rattle.model.specs.Stored.{tableIn}
 use Rattle.granting.proofs.LeakLaws.{Quiet, quiet-none, quiet-skip, quiet-row, leaking-row, leaking-none}
 use Rattle.granting.proofs.leaks.leak.Statement.{statement}
 use Rattle.granting.proofs.leaks.leak.Tie as tie
 
 abbrev Inv-loop : tie.InvT-loop
-Inv-loop kind first second n rep held over start c₀ c = Quiet (tableAt kind first second) n rep held over start c × (c ≤ n)
+Inv-loop table n rep held over start c₀ c = Quiet (tableIn table) n rep held over start c × (c ≤ n)
 
 abbrev μ-loop : tie.MeasureT-loop
-μ-loop kind first second n rep held over start c₀ c = n - c
+μ-loop table n rep held over start c₀ c = n - c
 
 loop-holds : tie.Need-loop-holds Inv-loop μ-loop
-loop-holds c = let a = c .args in (quiet-none (tableAt (a .kind .now) (a .first .now) (a .second .now)) (a .n) (a .rep .now) (a .held .now) (a .over .now) (a .start), omega arith)
+loop-holds c = let a = c .args in (quiet-none (tableIn (a .table .now)) (a .n) (a .rep .now) (a .held .now) (a .over .now) (a .start), omega arith)
 
 element-copy-out-if1 : tie.Need-element-copy-out-if1 Inv-loop μ-loop
 element-copy-out-if1 c =
@@ -34,7 +34,7 @@ returns c =
     let c5 = c1 .before .before .before .before in
     let a = c5 .before .args in
     let l = c5 .loop in
-    leaking-row (tableAt (a .kind .now) (a .first .now) (a .second .now)) (a .n) (a .rep .now) (a .held .now) (a .over .now) (a .start) (l .c) _ _ (c1 .leak-row .ensures) (c .if2 .taken)
+    leaking-row (tableIn (a .table .now)) (a .n) (a .rep .now) (a .held .now) (a .over .now) (a .start) (l .c) _ _ (c1 .leak-row .ensures) (c .if2 .taken)
 
 add-c : tie.Need-add-c Inv-loop μ-loop
 add-c c =
@@ -51,8 +51,8 @@ loop-again c =
     let l = c3 .loop in
     let a = c4 .args in (
       ⊎-elim
-          (λ x. quiet-row (tableAt (a .kind .now) (a .first .now) (a .second .now)) (a .n) (a .rep .now) (a .held .now) (a .over .now) (a .start) (l .c) (l .inv .0) _ _ (x .1 .ensures) (x .2 .left))
-          (λ x. quiet-skip (tableAt (a .kind .now) (a .first .now) (a .second .now)) (a .n) (a .rep .now) (a .held .now) (a .over .now) (a .start) (l .c) (l .inv .0) (x .left))
+          (λ x. quiet-row (tableIn (a .table .now)) (a .n) (a .rep .now) (a .held .now) (a .over .now) (a .start) (l .c) (l .inv .0) _ _ (x .1 .ensures) (x .2 .left))
+          (λ x. quiet-skip (tableIn (a .table .now)) (a .n) (a .rep .now) (a .held .now) (a .over .now) (a .start) (l .c) (l .inv .0) (x .left))
           (c .if1 .came),
       omega arith,
     )
@@ -62,8 +62,8 @@ returns-2 c =
     let c2 = c .before .before in
     let l = c .before .loop in
     let a = c2 .args in
-    leaking-none (tableAt (a .kind .now) (a .first .now) (a .second .now)) (a .n) (a .rep .now) (a .held .now) (a .over .now) (a .start) (search needs) (c2 .pre .1 .1)
-    (subst (λ (i : ℕ). Quiet (tableAt (a .kind .now) (a .first .now) (a .second .now)) (a .n) (a .rep .now) (a .held .now) (a .over .now) (a .start) i) (omega arith) (l .inv .0))
+    leaking-none (tableIn (a .table .now)) (a .n) (a .rep .now) (a .held .now) (a .over .now) (a .start) (search needs) (c2 .pre .1 .1)
+    (subst (λ (i : ℕ). Quiet (tableIn (a .table .now)) (a .n) (a .rep .now) (a .held .now) (a .over .now) (a .start) i) (omega arith) (l .inv .0))
 
 pub leak-spec : {M : Type 1} → statement M
 leak-spec =

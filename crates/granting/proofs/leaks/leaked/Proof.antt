@@ -1,6 +1,6 @@
 -- The sets, and what leaks by them.
 use borrow.Author.Needs.{needs}
-use Rattle.model.specs.Stored.{tableAt}
+use Rattle.model.specs.Stored.{tableIn}
 use Rattle.knowledge.proofs.ClassRows.{kept-row}
 use Rattle.granting.proofs.LeakLaws.{leaked-all}
 use Rattle.granting.proofs.leaks.leaked.Statement.{statement}
@@ -21,7 +21,7 @@ returns c =
     let c3 = c .before .before .before in
     let c5 = c3 .before .before in
     let a = c5 .before .before .args in
-    leaked-all {T = tableAt (a .kind .now) (a .first .now) (a .second .now)} (c5 .holds .ensures) (c3 .over .ensures) (c .leak .ensures)
+    leaked-all {T = tableIn (a .table .now)} (c5 .holds .ensures) (c3 .over .ensures) (c .leak .ensures)
 
 pub leaked-spec : {M : Type 1} → statement M
 leaked-spec = tie.close (tie.spec holds-requires over-requires leak-requires returns)

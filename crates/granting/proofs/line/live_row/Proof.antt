@@ -6,10 +6,10 @@ use Rattle.granting.proofs.line.live_row.Statement.{statement}
 use Rattle.granting.proofs.line.live_row.Tie as tie
 
 abbrev Inv-loop : tie.InvT-loop
-Inv-loop kind first second n rep bare c before k₀ d₀ k d = d ≤ n
+Inv-loop table n rep bare c before k₀ d₀ k d = d ≤ n
 
 abbrev μ-loop : tie.MeasureT-loop
-μ-loop kind first second n rep bare c before k₀ d₀ k d = n - d
+μ-loop table n rep bare c before k₀ d₀ k d = n - d
 
 loop-holds : tie.Need-loop-holds Inv-loop μ-loop
 loop-holds c = omega arith

@@ -4,7 +4,7 @@ use mathlib.Core.Logic.{_⊎_, inl, inr}
 use Prim.Native.Nat.{_≤_}
 use native.Mathlib.Omega.{arith}
 use borrow.Author.Needs.{needs}
-use Rattle.model.specs.Stored.{tableAt}
+use Rattle.model.specs.Stored.{tableIn}
 use Rattle.theory.specs.Cells.{On}
 use Rattle.knowledge.specs.Sweeps.{missing}
 use Rattle.knowledge.proofs.Grow.{none-on, missing-fewer}
@@ -14,10 +14,10 @@ use Rattle.granting.proofs.line.way.Statement.{statement}
 use Rattle.granting.proofs.line.way.Tie as tie
 
 abbrev Inv-loop : tie.InvT-loop
-Inv-loop kind first second n rep built costs goal m₀ c₀ m c = Walk (tableAt kind first second) rep built m c × Lacking n rep built c × (On m c → ⊥) × (On m goal ⊎ (goal ≡ c))
+Inv-loop table n rep built costs goal m₀ c₀ m c = Walk (tableIn table) rep built m c × Lacking n rep built c × (On m c → ⊥) × (On m goal ⊎ (goal ≡ c))
 
 abbrev μ-loop : tie.MeasureT-loop
-μ-loop kind first second n rep built costs goal m₀ c₀ m c = missing m
+μ-loop table n rep built costs goal m₀ c₀ m c = missing m
 
 loop-holds : tie.Need-loop-holds Inv-loop μ-loop
 loop-holds c = (walk-none (search needs) none-on (c .args .goal), c .pre .1 .1 .1, none-on (c .args .goal), inr refl)

@@ -10,13 +10,11 @@ element-copy-out-if1 c = search needs
 returns : tie.Need-returns
 returns c = search needs
 
-kin-requires : tie.Need-kin-requires
-kin-requires c κs = search needs
+kin-at-requires : tie.Need-kin-at-requires
+kin-at-requires c κs = search needs
 
 returns-2 : tie.Need-returns-2
-returns-2 c =
-    let s = c .before .before .before .before in
-    λ _ _ w. c .before .kin .ensures (s .args .second .now) .no (not-true _ (c .if2 .taken)) (w .kin)
+returns-2 c = λ _ _ w. c .before .kin-at .ensures .no (not-true _ (c .if2 .taken)) (w .kin)
 
 class-of-requires : tie.Need-class-of-requires
 class-of-requires c κs = search needs
@@ -57,7 +55,7 @@ may-spec =
     (tie.spec
     element-copy-out-if1
     returns
-    kin-requires
+    kin-at-requires
     returns-2
     class-of-requires
     class-of-requires-2

@@ -2,25 +2,27 @@
 use Prim.Native.Nat.{_+_, _-_, _≤_}
 use mathlib.Core.Path.{_≡_, subst}
 use native.Mathlib.Omega.{arith}
-use borrow.Author.Needs.{needs}
 use denote.Ref.{now}
 use lib.ListN.{length}
-use Rattle.model.specs.Stored.{tableAt}
+use Rattle.model.specs.Stored.{tableIn}
+use Rattle.reducing.specs.Bare.{Adds}
+use Rattle.reducing.proofs.PartLaws.{low-at}
 use Rattle.reducing.proofs.KeepLaws.{Keeping, keeping-start, keeping-skip, keeping-add, keeping-end}
+use borrow.Author.Needs.{needs}
 use Rattle.reducing.proofs.kept.keep.Statement.{statement}
 use Rattle.reducing.proofs.kept.keep.Tie as tie
 
 abbrev Inv-loop : tie.InvT-loop
-Inv-loop kind first second n rep marks₀ c₀ marks c = (c ≤ n) × Keeping (tableAt kind first second) rep marks₀ c marks
+Inv-loop table n rep marks₀ c₀ marks c = (c ≤ n) × Keeping (tableIn table) rep marks₀ c marks
 
 abbrev μ-loop : tie.MeasureT-loop
-μ-loop kind first second n rep marks₀ c₀ marks c = c
+μ-loop table n rep marks₀ c₀ marks c = c
 
 loop-holds : tie.Need-loop-holds Inv-loop μ-loop
 loop-holds c =
     let a = c .args in
     let size : length (a .bare) ≡ 129 = search needs in
-    (omega arith, keeping-start (a .n) (now (a .kind)) (now (a .first)) (now (a .second)) (now (a .rep)) (a .bare) (c .pre .0) (c .pre .1) size)
+    (omega arith, keeping-start (a .n) (now (a .table)) (now (a .rep)) (a .bare) (c .pre .0) (c .pre .1) size)
 
 sub-c : tie.Need-sub-c Inv-loop μ-loop
 sub-c c = omega arith
@@ -28,33 +30,31 @@ sub-c c = omega arith
 array-read-if1 : tie.Need-array-read-if1 Inv-loop μ-loop
 array-read-if1 c = omega (arith, c .before .before .pre .0 .rows .few, c .before .loop .inv .1 .size)
 
-element-copy-out-with-parts : tie.Need-element-copy-out-with-parts Inv-loop μ-loop
-element-copy-out-with-parts c = omega (arith, c .before .before .before .pre .0 .rows .few)
-
-element-copy-out-with-parts-2 : tie.Need-element-copy-out-with-parts-2 Inv-loop μ-loop
-element-copy-out-with-parts-2 c = omega (arith, c .before .before .before .before .pre .0 .rows .few)
-
-element-copy-out-with-parts-3 : tie.Need-element-copy-out-with-parts-3 Inv-loop μ-loop
-element-copy-out-with-parts-3 c = omega (arith, c .before .before .before .before .before .pre .0 .rows .few)
+cell-at-requires : tie.Need-cell-at-requires Inv-loop μ-loop
+cell-at-requires c κs = search needs
 
 with-parts-requires : tie.Need-with-parts-requires Inv-loop μ-loop
-with-parts-requires c κs = c .before .before .before .before .before .before .pre .0 .classes .few
+with-parts-requires c κs =
+    let l = c .before .before .before in
+    let p = l .before .pre .0 in
+    (p .classes .low, low-at (p .rows) (l .loop .c - 1) (c .cell-at .ensures))
 
 loop-less : tie.Need-loop-less Inv-loop μ-loop
 loop-less c = omega arith
 
 loop-again : tie.Need-loop-again Inv-loop μ-loop
 loop-again c =
-    let t = c .before .before .before .before in
+    let q = c .before in
+    let t = q .before in
     let l = t .before .before in
     let s = l .before in
     let a = s .args in
     let i = l .loop .c - 1 in
     let z : l .loop .c ≡ i + 1 = omega arith in (
       omega arith,
-      keeping-add (a .n) (now (a .kind)) (now (a .first)) (now (a .second)) (now (a .rep)) (a .bare) (s .pre .0) (s .pre .1) i (l .loop .marks)
-          (subst (λ i. Keeping (tableAt (now (a .kind)) (now (a .first)) (now (a .second))) (now (a .rep)) (a .bare) i (l .loop .marks)) z (l .loop .inv .1))
-          (c .with-parts .result) (t .if1 .taken) (c .with-parts .ensures),
+      keeping-add (a .n) (now (a .table)) (now (a .rep)) (a .bare) (s .pre .0) (s .pre .1) i (l .loop .marks)
+          (subst (λ i. Keeping (tableIn (now (a .table))) (now (a .rep)) (a .bare) i (l .loop .marks)) z (l .loop .inv .1))
+          (c .with-parts .result) (t .if1 .taken) (subst (λ k. Adds (now (a .rep)) (l .loop .marks) k (c .with-parts .result)) (q .cell-at .ensures) (c .with-parts .ensures)),
     )
 
 loop-less-2 : tie.Need-loop-less-2 Inv-loop μ-loop
@@ -68,9 +68,8 @@ loop-again-2 c =
     let i = l .loop .c - 1 in
     let z : l .loop .c ≡ i + 1 = omega arith in (
       omega arith,
-      keeping-skip (a .n) (now (a .kind)) (now (a .first)) (now (a .second)) (now (a .rep)) (a .bare) (s .pre .0) (s .pre .1) i (l .loop .marks)
-          (subst (λ i. Keeping (tableAt (now (a .kind)) (now (a .first)) (now (a .second))) (now (a .rep)) (a .bare) i (l .loop .marks)) z (l .loop .inv .1))
-          (c .if1 .left),
+      keeping-skip (a .n) (now (a .table)) (now (a .rep)) (a .bare) (s .pre .0) (s .pre .1) i (l .loop .marks)
+          (subst (λ i. Keeping (tableIn (now (a .table))) (now (a .rep)) (a .bare) i (l .loop .marks)) z (l .loop .inv .1)) (c .if1 .left),
     )
 
 returns : tie.Need-returns Inv-loop μ-loop
@@ -79,8 +78,8 @@ returns c =
     let s = l .before in
     let a = s .args in
     let z : l .loop .c ≡ 0 = omega arith in
-    keeping-end (a .n) (now (a .kind)) (now (a .first)) (now (a .second)) (now (a .rep)) (a .bare) (s .pre .0) (s .pre .1) (l .loop .marks)
-    (subst (λ i. Keeping (tableAt (now (a .kind)) (now (a .first)) (now (a .second))) (now (a .rep)) (a .bare) i (l .loop .marks)) z (l .loop .inv .1))
+    keeping-end (a .n) (now (a .table)) (now (a .rep)) (a .bare) (s .pre .0) (s .pre .1) (l .loop .marks)
+    (subst (λ i. Keeping (tableIn (now (a .table))) (now (a .rep)) (a .bare) i (l .loop .marks)) z (l .loop .inv .1))
 
 pub keep-spec : {M : Type 1} → statement M
 keep-spec =
@@ -91,9 +90,7 @@ keep-spec =
     loop-holds
     sub-c
     array-read-if1
-    element-copy-out-with-parts
-    element-copy-out-with-parts-2
-    element-copy-out-with-parts-3
+    cell-at-requires
     with-parts-requires
     loop-less
     loop-again

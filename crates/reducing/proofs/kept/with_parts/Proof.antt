@@ -1,54 +1,86 @@
 -- A store for each part of the cell.
-use mathlib.Core.Path.{_≡_}
-use borrow.Author.Needs.{needs}
+use mathlib.Core.Path.{_≡_, sym, _∙_, ap, subst}
+use lib.ListN.{length, set}
 use denote.Ref.{now}
-use lib.ListN.{length}
-use Rattle.reducing.proofs.KeepLaws.{adds-none, adds-app, adds-two}
+use Rattle.theory.specs.Cells.{classAt}
+use Rattle.cells.specs.Cells.{asCell}
+use Rattle.reducing.specs.Bare.{Adds}
+use Rattle.reducing.proofs.PartLaws.{low-one, low-two}
+use Rattle.reducing.proofs.KeepLaws.{adds-none, adds-one, adds-two}
+use borrow.Author.Needs.{needs}
 use Rattle.reducing.proofs.kept.with_parts.Statement.{statement}
 use Rattle.reducing.proofs.kept.with_parts.Tie as tie
 
+parts-of-requires : tie.Need-parts-of-requires
+parts-of-requires c κs = search needs
+
+enum-told : tie.Need-enum-told
+enum-told c = search needs
+
+enum-known-parts : tie.Need-enum-known-parts
+enum-known-parts c = search needs
+
+with-class-requires : tie.Need-with-class-requires
+with-class-requires c κs =
+    let p = c .before in
+    let o = p .before .before in
+    (o .before .pre .0, low-one (o .before .pre .1) (sym (o .parts-of .ensures) ∙ p .parts .given .1))
+
+enum-known-parts-2 : tie.Need-enum-known-parts-2
+enum-known-parts-2 c = search needs
+
+with-class-requires-2 : tie.Need-with-class-requires-2
+with-class-requires-2 c κs =
+    let p = c .before in
+    let o = p .before .before in
+    (o .before .pre .0, low-two (o .before .pre .1) (sym (o .parts-of .ensures) ∙ p .parts2 .given .1) .1)
+
+with-class-requires-3 : tie.Need-with-class-requires-3
+with-class-requires-3 c κs =
+    let p = c .before .before in
+    let o = p .before .before in
+    (o .before .pre .0, low-two (o .before .pre .1) (sym (o .parts-of .ensures) ∙ p .parts2 .given .1) .0)
+
 returns : tie.Need-returns
 returns c =
-    let a = c .before .args in
+    let o = c .before .before in
+    let a = o .before .args in
     let size : length (a .marks) ≡ 129 = search needs in
-    adds-none (now (a .rep)) (a .marks) size (a .kind) (a .first) (a .second) (c .if1 .taken)
-
-class-of-requires : tie.Need-class-of-requires
-class-of-requires c κs = search needs
-
-array-write-after : tie.Need-array-write-after
-array-write-after c = search needs
+    adds-none (now (a .rep)) (a .marks) size (asCell (a .k)) (sym (o .parts-of .ensures) ∙ c .enum-told .given .1)
 
 returns-2 : tie.Need-returns-2
 returns-2 c =
-    let q = c .before in
-    let a = q .before .before .args in
+    let p = c .before .before in
+    let o = p .before .before in
+    let s = o .before in
+    let a = s .args in
     let size : length (a .marks) ≡ 129 = search needs in
-    adds-app (now (a .rep)) (a .marks) size (a .kind) (a .first) (a .second) (q .class-of .result) (c .if2 .taken) (q .class-of .ensures .0) (q .class-of .ensures .1)
-
-class-of-requires-2 : tie.Need-class-of-requires-2
-class-of-requires-2 c κs = search needs
-
-array-write-after-2 : tie.Need-array-write-after-2
-array-write-after-2 c = search needs
+    subst (Adds (now (a .rep)) (a .marks) (asCell (a .k))) (sym (c .with-class .ensures))
+    (adds-one (now (a .rep)) (a .marks) size (asCell (a .k)) (sym (o .parts-of .ensures) ∙ p .parts .given .1) (s .pre .0 (p .parts .given .0 .0)))
 
 returns-3 : tie.Need-returns-3
 returns-3 c =
-    let e = c .before in
-    let q = e .before in
-    let a = q .before .before .args in
+    let q = c .before in
+    let p = q .before .before in
+    let o = p .before .before in
+    let s = o .before in
+    let a = s .args in
     let size : length (a .marks) ≡ 129 = search needs in
-    adds-two (now (a .rep)) (a .marks) size (a .kind) (a .first) (a .second) (c .class-of2 .result) (q .class-of .result) (q .before .if1 .left) (e .if2 .left)
-    (q .class-of .ensures .0) (q .class-of .ensures .1) (c .class-of2 .ensures .0) (c .class-of2 .ensures .1)
+    let x = p .parts2 .given .0 .0 in
+    subst (Adds (now (a .rep)) (a .marks) (asCell (a .k))) (sym (c .with-class3 .ensures ∙ ap (λ l. set l (classAt (now (a .rep)) x) 1) (q .with-class2 .ensures)))
+    (adds-two (now (a .rep)) (a .marks) size (asCell (a .k)) (sym (o .parts-of .ensures) ∙ p .parts2 .given .1) (s .pre .0 (p .parts2 .given .0 .1 .0)) (s .pre .0 x))
 
 pub with-parts-spec : {M : Type 1} → statement M
 with-parts-spec =
     tie.close
     (tie.spec
+    parts-of-requires
+    enum-told
+    enum-known-parts
+    with-class-requires
+    enum-known-parts-2
+    with-class-requires-2
+    with-class-requires-3
     returns
-    class-of-requires
-    array-write-after
     returns-2
-    class-of-requires-2
-    array-write-after-2
     returns-3)

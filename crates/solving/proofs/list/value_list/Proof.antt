@@ -1,23 +1,22 @@
 -- The invariant: the entries of the cells below c are laid.
 use mathlib.Core.Path.{subst}
-use mathlib.Core.List.{List}
 use Prim.Native.Nat.{ℕ, _≤_, _-_}
 use native.Mathlib.Omega.{arith}
 use borrow.Author.Needs.{needs}
-use Rattle.model.specs.Stored.{tableAt}
+use Rattle.model.specs.Stored.{tableIn}
 use Rattle.solving.specs.Listing.{Listed}
 use Rattle.solving.proofs.ListLaws.{listed-none, listed-next}
 use Rattle.solving.proofs.list.value_list.Statement.{statement}
 use Rattle.solving.proofs.list.value_list.Tie as tie
 
 abbrev Inv-loop : tie.InvT-loop
-Inv-loop kind n rep out₀ c₀ out c = ((firsts seconds : List ℕ) → Listed (tableAt kind firsts seconds) n rep out c) × (c ≤ n)
+Inv-loop table n rep out₀ c₀ out c = Listed (tableIn table) n rep out c × (c ≤ n)
 
 abbrev μ-loop : tie.MeasureT-loop
-μ-loop kind n rep out₀ c₀ out c = n - c
+μ-loop table n rep out₀ c₀ out c = n - c
 
 loop-holds : tie.Need-loop-holds Inv-loop μ-loop
-loop-holds c = (λ firsts seconds. listed-none (search needs), omega arith)
+loop-holds c = (listed-none (search needs), omega arith)
 
 entry-of-requires : tie.Need-entry-of-requires Inv-loop μ-loop
 entry-of-requires c κs = search needs
@@ -39,14 +38,14 @@ loop-again : tie.Need-loop-again Inv-loop μ-loop
 loop-again c =
     let c2 = c .before .before in
     let c3 = c2 .before in
-    (λ firsts seconds. listed-next (omega (arith, c3 .pre)) (c .entry-of .ensures firsts seconds) (c2 .loop .inv .0 firsts seconds), omega arith)
+    (listed-next (omega (arith, c3 .pre)) (c .entry-of .ensures) (c2 .loop .inv .0), omega arith)
 
 returns : tie.Need-returns Inv-loop μ-loop
-returns c firsts seconds =
+returns c =
     let c2 = c .before .before in
     let l = c .before in
     let a = c2 .args in
-    subst (λ (i : ℕ). Listed (tableAt (a .kind .now) firsts seconds) (a .n) (a .rep .now) (l .loop .out) i) (omega arith) (l .loop .inv .0 firsts seconds)
+    subst (λ (i : ℕ). Listed (tableIn (a .table .now)) (a .n) (a .rep .now) (l .loop .out) i) (omega arith) (l .loop .inv .0)
 
 pub value-list-spec : {M : Type 1} → statement M
 value-list-spec =

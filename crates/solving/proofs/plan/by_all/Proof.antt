@@ -8,7 +8,7 @@ wanted-requires : tie.Need-wanted-requires
 wanted-requires c κs = (c .pre .0, (kept-row (c .pre .0) (c .pre .1 .0), c .pre .1 .1))
 
 bares-requires : tie.Need-bares-requires
-bares-requires c κs = let s = c .before in (s .pre .0, kept-row (s .pre .0) (s .pre .1 .0))
+bares-requires c κs = let s = c .before .before .before .before in (s .pre .0, kept-row (s .pre .0) (s .pre .1 .0))
 
 live-requires : tie.Need-live-requires
 live-requires c κs = search needs

@@ -6,10 +6,10 @@ use Rattle.solving.proofs.plan.live.Statement.{statement}
 use Rattle.solving.proofs.plan.live.Tie as tie
 
 abbrev Inv-loop : tie.InvT-loop
-Inv-loop kind first second n rep want bare k₀ c₀ k c = c ≤ n
+Inv-loop table n rep want bare k₀ c₀ k c = c ≤ n
 
 abbrev μ-loop : tie.MeasureT-loop
-μ-loop kind first second n rep want bare k₀ c₀ k c = n - c
+μ-loop table n rep want bare k₀ c₀ k c = n - c
 
 loop-holds : tie.Need-loop-holds Inv-loop μ-loop
 loop-holds c = omega arith
@@ -23,6 +23,9 @@ live-row-requires : tie.Need-live-row-requires Inv-loop μ-loop
 live-row-requires c κs =
     let c4 = c .before .before .before .before in
     (c4 .pre .0, (c4 .pre .1, omega arith))
+
+capped-requires : tie.Need-capped-requires Inv-loop μ-loop
+capped-requires c κs = search needs
 
 add-c : tie.Need-add-c Inv-loop μ-loop
 add-c c =
@@ -47,6 +50,7 @@ live-spec =
     loop-holds
     element-copy-out-if1
     live-row-requires
+    capped-requires
     add-c
     loop-less
     loop-again

@@ -6,10 +6,10 @@ use Rattle.solving.proofs.plan.live_row.Statement.{statement}
 use Rattle.solving.proofs.plan.live_row.Tie as tie
 
 abbrev Inv-loop : tie.InvT-loop
-Inv-loop kind first second n rep want bare c before k₀ d₀ k d = d ≤ n
+Inv-loop table n rep want bare c k₀ d₀ k d = d ≤ n
 
 abbrev μ-loop : tie.MeasureT-loop
-μ-loop kind first second n rep want bare c before k₀ d₀ k d = n - d
+μ-loop table n rep want bare c k₀ d₀ k d = n - d
 
 loop-holds : tie.Need-loop-holds Inv-loop μ-loop
 loop-holds c = omega arith
@@ -17,10 +17,21 @@ loop-holds c = omega arith
 returns : tie.Need-returns Inv-loop μ-loop
 returns c = search needs
 
-live-at-requires : tie.Need-live-at-requires Inv-loop μ-loop
-live-at-requires c κs =
+pairing-requires : tie.Need-pairing-requires Inv-loop μ-loop
+pairing-requires c κs =
     let s = c .before .before .before in
-    (s .pre .0, (s .pre .1 .0, (s .pre .1 .1, omega arith)))
+    (omega (arith, s .pre .0 .few), omega (arith, s .pre .0 .few))
+
+cast-clash : tie.Need-cast-clash Inv-loop μ-loop
+cast-clash c = omega (arith, c .before .before .before .before .before .pre .0 .few)
+
+cast-clash-2 : tie.Need-cast-clash-2 Inv-loop μ-loop
+cast-clash-2 c = omega (arith, c .before .before .before .before .before .pre .0 .few)
+
+clash-requires : tie.Need-clash-requires Inv-loop μ-loop
+clash-requires c κs =
+    let s = c .before .before .before .before .before in
+    (s .pre .0, s .pre .1 .0)
 
 add-k : tie.Need-add-k Inv-loop μ-loop
 add-k c = omega arith
@@ -45,7 +56,10 @@ live-row-spec =
     μ-loop
     loop-holds
     returns
-    live-at-requires
+    pairing-requires
+    cast-clash
+    cast-clash-2
+    clash-requires
     add-k
     add-d
     loop-less

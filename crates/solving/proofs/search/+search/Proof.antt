@@ -1,4 +1,4 @@
--- The measure is the number of classes, which each pair lowers. The invariant: no right values make a pair before the place of c and d equal.
+-- The measure is the number of classes, which each pair lowers. The invariant: no right values make a pair before the place `from` equal.
 use mathlib.Core.Path.{_≡_, refl}
 use mathlib.Core.Bool.{true}
 use Prim.Native.Nat.{_≤_, _-_, ℕ, _<_}
@@ -7,7 +7,7 @@ use borrow.Author.Needs.{needs}
 use borrow.Author.Tests.{not-true, not-false}
 use borrow.Fn.Kinds.{In}
 use borrow.Fn.PlainCycle.{Measures, is, falls, and}
-use Rattle.model.specs.Stored.{tableAt, runAt}
+use Rattle.model.specs.Stored.{tableIn, runIn}
 use Rattle.classes.specs.Kept.{classCount}
 use Rattle.solving.proofs.SearchLaws.{Tried, tried-none, tried-next, tried-all, searched-yes, searched-no, searched-child}
 use Rattle.solving.specs.Pairs.{place}
@@ -21,7 +21,7 @@ use Rattle.solving.proofs.search.+search.{statement}
 use Rattle.solving.proofs.search.+search.Tie.{close}
 
 abbrev μ-search : Measures 2 search-kinds.ps ℕ
-μ-search κs a = classCount (a .1 .1 .1 .1 .1 .1 .1 .1 .0)
+μ-search κs a = classCount (a .1 .1 .1 .1 .1 .0)
 
 abbrev search-at : ℕ → In 2 search-kinds.ps
 search-at t = and 2 search-kinds.ps (is 2 search-kinds.ps μ-search t) search′.Pre
@@ -30,11 +30,11 @@ abbrev search-below : ℕ → In 2 search-kinds.ps
 search-below t = and 2 search-kinds.ps (falls 2 search-kinds.ps _<_ μ-search t) search′.Pre
 
 abbrev Inv-loop : search-lts.InvT-loop
-Inv-loop kind first second n ekind ecell count dead₀ rep pl c₀ d₀ dead c d = Tried (tableAt kind first second) n (runAt count ekind ecell) rep (pl .want) (pl .bare)
-    (place c d) × (d ≤ 128)
+Inv-loop table n run count dead₀ rep pl from₀ dead from = Tried (tableIn table) n (runIn count run) rep (pl .want) (pl .bare)
+    (place (from .c) (from .d)) × (from .d ≤ 128)
 
 abbrev μ-loop : search-lts.MeasureT-loop
-μ-loop kind first second n ekind ecell count dead₀ rep pl c₀ d₀ dead c d = 16385 - place c d
+μ-loop table n run count dead₀ rep pl from₀ dead from = 16385 - place (from .c) (from .d)
 
 -- A call with t classes, and what the functions that it calls ask and say.
 module _ (t : ℕ) where
@@ -63,7 +63,7 @@ module _ (t : ℕ) where
   loop-holds c =
       let p = c .before .before .before in
       let a = p .before .before .before .args in
-      (tried-none (tableAt (a .kind .now) (a .first .now) (a .second .now)) (a .n) (runAt (a .count) (a .ekind .now) (a .ecell .now)) (a .t9) (p .plan .result .want) (p .plan .result .bare), omega arith)
+      (tried-none (tableIn (a .table .now)) (a .n) (runIn (a .count) (a .run .now)) (a .t6) (p .plan .result .want) (p .plan .result .bare), omega arith)
 
   next-child-requires : search-lts.Need-next-child-requires claims (search-at t) search′.Post Inv-loop μ-loop
   next-child-requires c κs =
@@ -80,8 +80,8 @@ module _ (t : ℕ) where
       let s = p .before .before .before in
       let a = s .args in
       let pl = p .plan .result in
-      searched-no (s .pre .1 .0) (runAt (a .count) (a .ekind .now) (a .ecell .now)) (s .pre .1 .1 .1 .1) (s .pre .1 .1 .1 .0) pl _ (p .plan .ensures) (i .if1 .left) refl
-      (tried-all (tableAt (a .kind .now) (a .first .now) (a .second .now)) (a .n) (runAt (a .count) (a .ekind .now) (a .ecell .now)) (a .t9) (pl .want) (pl .bare) (l .loop .c) (l .loop .d) (l .loop .inv .0) (h .next-child .result) (h .next-child .ensures)
+      searched-no (s .pre .1 .0) (runIn (a .count) (a .run .now)) (s .pre .1 .1 .1 .1) (s .pre .1 .1 .1 .0) pl _ (p .plan .ensures) (i .if1 .left) refl
+      (tried-all (tableIn (a .table .now)) (a .n) (runIn (a .count) (a .run .now)) (a .t6) (pl .want) (pl .bare) (l .loop .from .c) (l .loop .from .d) (l .loop .inv .0) (h .next-child .result) (h .next-child .ensures)
       (not-true _ (c .if2 .taken)))
 
   search-requires : search-lts.Need-search-requires claims (search-at t) search′.Post Inv-loop μ-loop
@@ -95,7 +95,7 @@ module _ (t : ℕ) where
   returns-3 c =
       let h = c .before .before .before .before .before .before in
       let a = h .before .before .before .before .before .before .before .before .before .before .before .args in
-      searched-child (tableAt (a .kind .now) (a .first .now) (a .second .now)) (a .n) (runAt (a .count) (a .ekind .now) (a .ecell .now)) (a .t9) (h .next-child .result .rep) (c .before .search .result) (c .before .search .ensures) (c .if3 .taken)
+      searched-child (tableIn (a .table .now)) (a .n) (runIn (a .count) (a .run .now)) (a .t6) (h .next-child .result .rep) (c .before .search .result) (c .before .search .ensures) (c .if3 .taken)
 
   loop-less : search-lts.Need-loop-less claims (search-at t) search′.Post Inv-loop μ-loop
   loop-less c =
@@ -114,7 +114,7 @@ module _ (t : ℕ) where
       let a = s .args in
       let pl = l .before .before .before .before .plan .result in
       let ok = not-false _ (i .if2 .left) in (
-        tried-next (tableAt (a .kind .now) (a .first .now) (a .second .now)) (a .n) (runAt (a .count) (a .ekind .now) (a .ecell .now)) (a .t9) (pl .want) (pl .bare) (l .loop .c) (l .loop .d) (l .loop .inv .0) (h .next-child .result) (h .next-child .ensures) ok
+        tried-next (tableIn (a .table .now)) (a .n) (runIn (a .count) (a .run .now)) (a .t6) (pl .want) (pl .bare) (l .loop .from .c) (l .loop .from .d) (l .loop .inv .0) (h .next-child .result) (h .next-child .ensures) ok
             (c .before .search .ensures .none (c .if3 .left)),
         omega (arith, h .next-child .ensures .later ok .2, s .pre .1 .0 .few),
       )

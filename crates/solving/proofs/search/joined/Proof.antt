@@ -2,7 +2,7 @@
 use mathlib.Core.Path.{refl}
 use borrow.Author.Tests.{not-false}
 use borrow.Author.Needs.{needs}
-use Rattle.model.specs.Stored.{tableAt}
+use Rattle.model.specs.Stored.{tableIn}
 use Rattle.solving.proofs.ChildLaws.{joined-never, joined-raised}
 use Rattle.solving.proofs.search.joined.Statement.{statement}
 use Rattle.solving.proofs.search.joined.Tie as tie
@@ -13,7 +13,7 @@ clash-requires c κs = search needs
 returns : tie.Need-returns
 returns c =
     let a = c .before .before .before .args in
-    joined-never (tableAt (a .kind .now) (a .first .now) (a .second .now)) (a .n) (a .t5) (a .x) (a .y) _ refl (c .before .clash .ensures (c .if1 .taken))
+    joined-never (tableIn (a .table .now)) (a .n) (a .t3) (a .x) (a .y) _ refl (c .before .clash .ensures (c .if1 .taken))
 
 unify-requires : tie.Need-unify-requires
 unify-requires c κs = search needs
@@ -31,7 +31,7 @@ returns-3 : tie.Need-returns-3
 returns-3 c =
     let u = c .before .before .before .before in
     let a = u .before .before .before .before .args in
-    joined-raised (tableAt (a .kind .now) (a .first .now) (a .second .now)) (a .n) (a .t5) (a .x) (a .y) (u .unify .result) (u .unify .ensures) (not-false _ (c .before .before .if2 .left))
+    joined-raised (tableIn (a .table .now)) (a .n) (a .t3) (a .x) (a .y) (u .unify .result) (u .unify .ensures) (not-false _ (c .before .before .if2 .left))
     (c .raise .ensures)
 
 pub joined-spec : {M : Type 1} → statement M

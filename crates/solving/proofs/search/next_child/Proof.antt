@@ -1,24 +1,23 @@
--- The invariant: no pair from the place of c0 and d0 on up to that of c and d can be made equal.
+-- The invariant: no pair from the place of the start on up to that of c and d can be made equal.
 use mathlib.Core.Path.{refl}
 use Prim.Native.Nat.{_≤_, _-_}
 use native.Mathlib.Omega.{arith}
 use borrow.Author.Needs.{needs}
-use Rattle.model.specs.Stored.{tableAt}
+use Rattle.model.specs.Stored.{tableIn}
 use Rattle.solving.proofs.ChildLaws.{Failed, failed-none, failed-next, child-none, child-found}
 use Rattle.solving.specs.Pairs.{place}
 use Rattle.solving.proofs.search.next_child.Statement.{statement}
 use Rattle.solving.proofs.search.next_child.Tie as tie
 
 abbrev Inv-loop : tie.InvT-loop
-Inv-loop kind first second n want bare c0 d0 rep c₀ d₀ c d = Failed (tableAt kind first second) n rep want bare (place c0 d0) (place c d) × (place c0 d0 ≤ place c d) ×
-    (d ≤ 128)
+Inv-loop table n want bare rep c₀ d₀ c d = Failed (tableIn table) n rep want bare (place c₀ d₀) (place c d) × (place c₀ d₀ ≤ place c d) × (d ≤ 128)
 
 abbrev μ-loop : tie.MeasureT-loop
-μ-loop kind first second n want bare c0 d0 rep c₀ d₀ c d = 16385 - place c d
+μ-loop table n want bare rep c₀ d₀ c d = 16385 - place c d
 
 loop-holds : tie.Need-loop-holds Inv-loop μ-loop
 loop-holds c = let a = c .args in (
-  failed-none (tableAt (a .kind .now) (a .first .now) (a .second .now)) (a .n) (a .t5) (a .want .now) (a .bare .now) (c .pre .0 .few) (place (a .c0) (a .d0)),
+  failed-none (tableIn (a .table .now)) (a .n) (a .t3) (a .want .now) (a .bare .now) (c .pre .0 .few) (place (a .from .c) (a .from .d)),
   omega arith,
   c .pre .1 .1,
 )
@@ -41,48 +40,36 @@ returns c =
     let c5 = c4 .before in
     let a = c5 .args in
     let l = c4 .loop in
-    child-none (tableAt (a .kind .now) (a .first .now) (a .second .now)) (a .n) (a .t5) (a .want .now) (a .bare .now) (c5 .pre .0 .few) (place (a .c0) (a .d0)) (l .c)
-    (l .d) (l .inv .0) _ refl (rw (c .enum-told .given .1) at (c2 .next-pair .ensures (a .second .now)))
+    child-none (tableIn (a .table .now)) (a .n) (a .t3) (a .want .now) (a .bare .now) (c5 .pre .0 .few) (place (a .from .c) (a .from .d)) (l .c)
+    (l .d) (l .inv .0) _ refl (rw (c .enum-told .given .1) at (c2 .next-pair .ensures))
 
 cast-joined : tie.Need-cast-joined Inv-loop μ-loop
 cast-joined c =
     let c3 = c .before .before .before in
     let c6 = c3 .before .before .before in
-    let a = c6 .args in
-    let x = c .before .x .given .0 .0 in
-    let y = c .before .x .given .0 .1 .0 in
-    let w = rw (c .before .x .given .1) at (c3 .next-pair .ensures (a .second .now)) in
+    let w = rw (c .before .x .given .1) at (c3 .next-pair .ensures) in
     omega (arith, w .0, c6 .pre .0 .few)
 
 cast-joined-2 : tie.Need-cast-joined-2 Inv-loop μ-loop
 cast-joined-2 c =
     let c3 = c .before .before .before in
     let c6 = c3 .before .before .before in
-    let a = c6 .args in
-    let x = c .before .x .given .0 .0 in
-    let y = c .before .x .given .0 .1 .0 in
-    let w = rw (c .before .x .given .1) at (c3 .next-pair .ensures (a .second .now)) in
+    let w = rw (c .before .x .given .1) at (c3 .next-pair .ensures) in
     omega (arith, w .1, c6 .pre .0 .few)
 
 joined-requires : tie.Need-joined-requires Inv-loop μ-loop
 joined-requires c κs =
     let c3 = c .before .before .before in
     let c6 = c3 .before .before .before in
-    let a = c6 .args in
-    let x = c .before .x .given .0 .0 in
-    let y = c .before .x .given .0 .1 .0 in
-    let w = rw (c .before .x .given .1) at (c3 .next-pair .ensures (a .second .now)) in
+    let w = rw (c .before .x .given .1) at (c3 .next-pair .ensures) in
     (c6 .pre .0, (c6 .pre .1 .0, (w .0, w .1)))
 
-add-t24 : tie.Need-add-t24 Inv-loop μ-loop
-add-t24 c =
+add-t22 : tie.Need-add-t22 Inv-loop μ-loop
+add-t22 c =
     let c4 = c .before .before .before .before in
     let c6 = c4 .before .before in
     let c9 = c6 .before .before .before in
-    let a = c9 .args in
-    let x = c4 .x .given .0 .0 in
-    let y = c4 .x .given .0 .1 .0 in
-    let w = rw (c4 .x .given .1) at (c6 .next-pair .ensures (a .second .now)) in
+    let w = rw (c4 .x .given .1) at (c6 .next-pair .ensures) in
     omega (arith, w .1, c9 .pre .0 .few)
 
 returns-2 : tie.Need-returns-2 Inv-loop μ-loop
@@ -95,9 +82,9 @@ returns-2 c =
     let a = c9 .args in
     let x = c4 .x .given .0 .0 in
     let y = c4 .x .given .0 .1 .0 in
-    let w = rw (c4 .x .given .1) at (c6 .next-pair .ensures (a .second .now)) in
+    let w = rw (c4 .x .given .1) at (c6 .next-pair .ensures) in
     let l = c8 .loop in
-    child-found (tableAt (a .kind .now) (a .first .now) (a .second .now)) (a .n) (a .t5) (a .want .now) (a .bare .now) (c9 .pre .0 .few) (place (a .c0) (a .d0)) (l .c)
+    child-found (tableIn (a .table .now)) (a .n) (a .t3) (a .want .now) (a .bare .now) (c9 .pre .0 .few) (place (a .from .c) (a .from .d)) (l .c)
     (l .d) (l .inv .0) x y w (c2 .joined .result) (c2 .joined .ensures) (l .inv .1) (c .before .if1 .taken)
 
 add-d : tie.Need-add-d Inv-loop μ-loop
@@ -105,10 +92,7 @@ add-d c =
     let c3 = c .before .before .before in
     let c5 = c3 .before .before in
     let c8 = c5 .before .before .before in
-    let a = c8 .args in
-    let x = c3 .x .given .0 .0 in
-    let y = c3 .x .given .0 .1 .0 in
-    let w = rw (c3 .x .given .1) at (c5 .next-pair .ensures (a .second .now)) in
+    let w = rw (c3 .x .given .1) at (c5 .next-pair .ensures) in
     omega (arith, w .1, c8 .pre .0 .few)
 
 loop-less : tie.Need-loop-less Inv-loop μ-loop
@@ -116,10 +100,7 @@ loop-less c =
     let c3 = c .before .before .before in
     let c5 = c3 .before .before in
     let c8 = c5 .before .before .before in
-    let a = c8 .args in
-    let x = c3 .x .given .0 .0 in
-    let y = c3 .x .given .0 .1 .0 in
-    let w = rw (c3 .x .given .1) at (c5 .next-pair .ensures (a .second .now)) in
+    let w = rw (c3 .x .given .1) at (c5 .next-pair .ensures) in
     omega (arith, w .0, w .1, w .2, c8 .pre .0 .few)
 
 loop-again : tie.Need-loop-again Inv-loop μ-loop
@@ -131,9 +112,9 @@ loop-again c =
     let a = c8 .args in
     let x = c3 .x .given .0 .0 in
     let y = c3 .x .given .0 .1 .0 in
-    let w = rw (c3 .x .given .1) at (c5 .next-pair .ensures (a .second .now)) in
+    let w = rw (c3 .x .given .1) at (c5 .next-pair .ensures) in
     let l = c7 .loop in (
-      failed-next (tableAt (a .kind .now) (a .first .now) (a .second .now)) (a .n) (a .t5) (a .want .now) (a .bare .now) (c8 .pre .0 .few) (place (a .c0) (a .d0)) (l .c)
+      failed-next (tableIn (a .table .now)) (a .n) (a .t3) (a .want .now) (a .bare .now) (c8 .pre .0 .few) (place (a .from .c) (a .from .d)) (l .c)
           (l .d) (l .inv .0) x y w (c .before .joined .result) (c .before .joined .ensures) (c .if1 .left),
       omega (arith, w .2, l .inv .1),
       omega (arith, w .1, c8 .pre .0 .few),
@@ -153,7 +134,7 @@ next-child-spec =
     cast-joined
     cast-joined-2
     joined-requires
-    add-t24
+    add-t22
     returns-2
     add-d
     loop-less

@@ -1,6 +1,6 @@
 -- What the search says, with the list of its classes.
 use mathlib.Core.Path.{refl}
-use Rattle.model.specs.Stored.{runAt}
+use Rattle.model.specs.Stored.{runIn}
 use Rattle.solving.proofs.SearchLaws.{solves}
 use borrow.Author.Needs.{needs}
 use Rattle.solving.proofs.search.solve.Statement.{statement}
@@ -24,8 +24,8 @@ returns c =
     let st = q .before .before in
     let s = st .before in
     let a = s .args in
-    solves (s .pre .0) (runAt (a .count) (a .ekind .now) (a .ecell .now)) (st .start .result) (q .search .result) _ (st .start .ensures) (q .search .ensures)
-    (c .value-list .ensures (a .first .now) (a .second .now)) refl
+    solves (s .pre .0) (runIn (a .count) (a .run .now)) (st .start .result) (q .search .result) _ (st .start .ensures) (q .search .ensures)
+    (c .value-list .ensures) refl
 
 pub solve-spec : {M : Type 1} → statement M
 solve-spec = tie.close (tie.spec start-requires search-requires value-list-requires returns)

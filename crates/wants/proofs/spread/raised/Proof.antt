@@ -3,7 +3,7 @@ use mathlib.Core.Path.{subst}
 use mathlib.Core.Bool.{Bool}
 use borrow.Author.Tests.{not-true, not-false}
 use borrow.Author.Needs.{needs}
-use Rattle.model.specs.Stored.{tableAt}
+use Rattle.model.specs.Stored.{tableIn}
 use Rattle.knowledge.specs.Sweeps.{missing}
 use Rattle.wants.proofs.SpreadLaws.{grown-wider, raised-still}
 use Rattle.wants.proofs.Rowing.{wider-none}
@@ -13,16 +13,16 @@ use Rattle.wants.proofs.spread.raised.Statement.{statement}
 use Rattle.wants.proofs.spread.raised.Tie as tie
 
 abbrev Inv-loop : tie.InvT-loop
-Inv-loop kind first second n rep m₀ m = Wider rep m₀ m
+Inv-loop table n rep m₀ m = Wider rep m₀ m
 
 abbrev μ-loop : tie.MeasureT-loop
-μ-loop kind first second n rep m₀ m = missing m
+μ-loop table n rep m₀ m = missing m
 
 loop-holds : tie.Need-loop-holds Inv-loop μ-loop
 loop-holds c = wider-none (search needs) (c .pre .1 .1)
 
-raise-requires : tie.Need-raise-requires Inv-loop μ-loop
-raise-requires c κs = (c .before .pre .0, (c .before .pre .1 .0, c .loop .inv .marked))
+raise-once-requires : tie.Need-raise-once-requires Inv-loop μ-loop
+raise-once-requires c κs = (c .before .pre .0, (c .before .pre .1 .0, c .loop .inv .marked))
 
 returns : tie.Need-returns Inv-loop μ-loop
 returns c =
@@ -31,22 +31,22 @@ returns c =
     let c5 = c4 .before in
     let l = c4 .loop in
     let a = c5 .args in
-    let s = c3 .raise in
+    let s = c3 .raise-once in
     raised-still (c5 .pre .0) (l .inv)
-    (subst (λ (ch : Bool). Raising (tableAt (a .kind .now) (a .first .now) (a .second .now)) (a .rep .now) (l .m) (s .result .marks) ch (a .n))
+    (subst (λ (ch : Bool). Raising (tableIn (a .table .now)) (a .rep .now) (l .m) (s .result .marks) ch (a .n))
     (not-true _ (c .if1 .taken)) (s .ensures))
 
 loop-less : tie.Need-loop-less Inv-loop μ-loop
 loop-less c =
     let c3 = c .before .before .before in
-    c3 .raise .ensures .grown .moved (not-false _ (c .if1 .left))
+    c3 .raise-once .ensures .grown .moved (not-false _ (c .if1 .left))
 
 loop-again : tie.Need-loop-again Inv-loop μ-loop
 loop-again c =
     let c3 = c .before .before .before in
     let c4 = c3 .before in
-    grown-wider (c4 .loop .inv) (c3 .raise .ensures .grown)
+    grown-wider (c4 .loop .inv) (c3 .raise-once .ensures .grown)
 
 pub raised-spec : {M : Type 1} → statement M
 raised-spec =
-    tie.close (tie.spec Inv-loop μ-loop loop-holds raise-requires returns loop-less loop-again)
+    tie.close (tie.spec Inv-loop μ-loop loop-holds raise-once-requires returns loop-less loop-again)

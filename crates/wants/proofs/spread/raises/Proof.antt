@@ -2,7 +2,7 @@
 use mathlib.Core.Path.{sym, _∙_}
 use borrow.Author.Needs.{needs}
 use Rattle.theory.proofs.Decides.{decides-yes, decides-no, decides-eqb}
-use Rattle.model.specs.Stored.{tableAt}
+use Rattle.model.specs.Stored.{tableIn}
 use Rattle.wants.proofs.SpreadLaws.{raises-left, raises-right, raises-none}
 use Rattle.wants.proofs.spread.raises.Statement.{statement}
 use Rattle.wants.proofs.spread.raises.Tie as tie
@@ -34,7 +34,7 @@ returns-3 c =
     let c7 = c6 .before in
     let a = c7 .args in
     let e = c2 .ends in
-    decides-yes (raises-left (tableAt (a .kind .now) (a .first .now) (a .second .now)) (a .rep .now) (a .marks .now) (a .c) (e .result .left) (e .result .right)
+    decides-yes (raises-left (tableIn (a .table .now)) (a .rep .now) (a .marks .now) (a .c) (e .result .left) (e .result .right)
     (e .ensures) (sym (c6 .class-of .ensures) ∙ c5 .if1 .left) (c3 .if2 .left) (c .if3 .taken))
 
 element-copy-out-result : tie.Need-element-copy-out-result
@@ -50,9 +50,9 @@ returns-4 c =
     let a = c8 .args in
     let e = c3 .ends in
     decides-eqb _ _
-    (raises-right (tableAt (a .kind .now) (a .first .now) (a .second .now)) (a .rep .now) (a .marks .now) (a .c) (e .result .left) (e .result .right) (e .ensures)
+    (raises-right (tableIn (a .table .now)) (a .rep .now) (a .marks .now) (a .c) (e .result .left) (e .result .right) (e .ensures)
     (sym (c7 .class-of .ensures) ∙ c6 .if1 .left) (c4 .if2 .left))
-    (raises-none (tableAt (a .kind .now) (a .first .now) (a .second .now)) (a .rep .now) (a .marks .now) (a .c) (e .result .left) (e .result .right) (e .ensures)
+    (raises-none (tableIn (a .table .now)) (a .rep .now) (a .marks .now) (a .c) (e .result .left) (e .result .right) (e .ensures)
     (c .before .if3 .left))
 
 pub raises-spec : {M : Type 1} → statement M

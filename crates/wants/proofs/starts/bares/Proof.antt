@@ -4,17 +4,17 @@ use mathlib.Core.Path.{subst}
 use Prim.Native.Nat.{ℕ, _≤_, _-_}
 use native.Mathlib.Omega.{arith}
 use borrow.Author.Needs.{needs}
-use Rattle.model.specs.Stored.{tableAt}
+use Rattle.model.specs.Stored.{tableIn}
 use Rattle.wants.proofs.StartLaws.{bare-none, bare-mark, bare-skip}
 use Rattle.wants.specs.Starts.{BareTo}
 use Rattle.wants.proofs.starts.bares.Statement.{statement}
 use Rattle.wants.proofs.starts.bares.Tie as tie
 
 abbrev Inv-loop : tie.InvT-loop
-Inv-loop kind first second n rep seen built m₀ c₀ m c = (BareTo (tableAt kind first second) rep seen built m c) × (c ≤ n)
+Inv-loop table n rep seen built m₀ c₀ m c = (BareTo (tableIn table) rep seen built m c) × (c ≤ n)
 
 abbrev μ-loop : tie.MeasureT-loop
-μ-loop kind first second n rep seen built m₀ c₀ m c = n - c
+μ-loop table n rep seen built m₀ c₀ m c = n - c
 
 loop-holds : tie.Need-loop-holds Inv-loop μ-loop
 loop-holds c = (bare-none, omega arith)
@@ -53,7 +53,7 @@ returns c =
     let c2 = c .before .before in
     let l = c .before in
     let a = c2 .args in
-    subst (λ (i : ℕ). BareTo (tableAt (a .kind .now) (a .first .now) (a .second .now)) (a .rep .now) (a .seen .now) (a .built .now) (l .loop .m) i) (omega arith)
+    subst (λ (i : ℕ). BareTo (tableIn (a .table .now)) (a .rep .now) (a .seen .now) (a .built .now) (l .loop .m) i) (omega arith)
     (l .loop .inv .0)
 
 pub bares-spec : {M : Type 1} → statement M

@@ -4,21 +4,21 @@ use mathlib.Core.Path.{subst}
 use Prim.Native.Nat.{ℕ, _≤_, _-_}
 use native.Mathlib.Omega.{arith}
 use borrow.Author.Needs.{needs}
-use Rattle.model.specs.Stored.{tableAt}
+use Rattle.model.specs.Stored.{tableIn}
 use Rattle.wants.proofs.StartLaws.{keyed-none, keyed-mark, keyed-skip, key-low}
 use Rattle.wants.specs.Starts.{Keyed}
 use Rattle.wants.proofs.starts.keys.Statement.{statement}
 use Rattle.wants.proofs.starts.keys.Tie as tie
 
 abbrev Inv-loop : tie.InvT-loop
-Inv-loop kind first second n rep seen built m₀ c₀ m c = (Keyed (tableAt kind first second) rep seen built m₀ m c) × (c ≤ n)
+Inv-loop table n rep seen built m₀ c₀ m c = (Keyed (tableIn table) rep seen built m₀ m c) × (c ≤ n)
 
 abbrev μ-loop : tie.MeasureT-loop
-μ-loop kind first second n rep seen built m₀ c₀ m c = n - c
+μ-loop table n rep seen built m₀ c₀ m c = n - c
 
 loop-holds : tie.Need-loop-holds Inv-loop μ-loop
 loop-holds c = let a = c .args in (
-  keyed-none (tableAt (a .kind .now) (a .first .now) (a .second .now)) (c .pre .1 .0) (a .seen .now) (a .built .now) (a .start) 0 (search needs) (c .pre .1 .1),
+  keyed-none (tableIn (a .table .now)) (c .pre .1 .0) (a .seen .now) (a .built .now) (a .start) 0 (search needs) (c .pre .1 .1),
   omega arith,
 )
 
@@ -37,7 +37,7 @@ array-write-m c =
     let a = c6 .args in
     omega (
       arith,
-      key-low (tableAt (a .kind .now) (a .first .now) (a .second .now)) (c6 .pre .1 .0) (a .seen .now) (a .built .now) (a .start) (l .loop .c)
+      key-low (tableIn (a .table .now)) (c6 .pre .1 .0) (a .seen .now) (a .built .now) (a .start) (l .loop .c)
           (c3 .key-at .ensures) (c .before .p .given .1),
     )
 
@@ -59,10 +59,10 @@ loop-again c =
     let l = c3 in
     let a = c4 .args in (
       ⊎-elim
-          (λ x. rw (x .3) (keyed-mark (tableAt (a .kind .now) (a .first .now) (a .second .now)) (c4 .pre .1 .0) (a .seen .now) (a .built .now) (a .start) (l .loop .c)
-          (c .before .key-at .ensures) (x .1 .given .1) (l .loop .inv .0)))
-          (λ x. rw (x .2) (keyed-skip (tableAt (a .kind .now) (a .first .now) (a .second .now)) (c4 .pre .1 .0) (a .seen .now) (a .built .now) (a .start) (l .loop .c)
-          (c .before .key-at .ensures) (x .1 .given .1) (l .loop .inv .0)))
+          (λ x. rw (x .3) (keyed-mark (tableIn (a .table .now)) (c4 .pre .1 .0) (a .seen .now) (a .built .now) (a .start) (l .loop .c)
+          (c .before .key-at .ensures) (l .loop .inv .0) (x .1 .given .1)))
+          (λ x. rw (x .2) (keyed-skip (tableIn (a .table .now)) (c4 .pre .1 .0) (a .seen .now) (a .built .now) (a .start) (l .loop .c)
+          (c .before .key-at .ensures) (l .loop .inv .0) (x .1 .given .1)))
           (c .match .came),
       omega arith,
     )
@@ -72,7 +72,7 @@ returns c =
     let c2 = c .before .before in
     let l = c .before in
     let a = c2 .args in
-    subst (λ (i : ℕ). Keyed (tableAt (a .kind .now) (a .first .now) (a .second .now)) (a .rep .now) (a .seen .now) (a .built .now) (a .start) (l .loop .m) i)
+    subst (λ (i : ℕ). Keyed (tableIn (a .table .now)) (a .rep .now) (a .seen .now) (a .built .now) (a .start) (l .loop .m) i)
     (omega arith) (l .loop .inv .0)
 
 pub keys-spec : {M : Type 1} → statement M
