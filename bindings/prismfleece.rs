@@ -1,7 +1,8 @@
-//! Prismfleece for callers in Rust: the five questions about case files of radio door controllers, over `libprismfleece.a`.
+//! Prismfleece for callers in Rust: the five questions about case files of radio door controllers, and typed text read into a case file, over
+//! `libprismfleece.a`.
 //!
 //! One file without dependencies, to be copied as it is. It needs the library at linking: `-l static=prismfleece`, or in a build script
-//! `cargo:rustc-link-lib=static=prismfleece`. Every function takes any bytes as a file and any buffer, and nothing is allocated: a reply lies
+//! `cargo:rustc-link-lib=static=prismfleece`. Every function takes any bytes as a file or text and any buffer, and nothing is allocated: a reply lies
 //! in the front of the lent buffer, whose other bytes stay as they were; a refusal, "no" and "wrong" leave all of it as it was.
 
 #![allow(dead_code)] // a caller need not ask everything
@@ -17,7 +18,7 @@ pub const CELLS: usize = 128;
 /// The most events of a file.
 pub const EVENTS: usize = 128;
 
-/// The most bytes of a file, given or reduced.
+/// The most bytes of a file, given, reduced or typed.
 pub const FILE: usize = 898;
 
 /// A variable's entry in a value list that stands for name 0, the intruder's own.
@@ -26,9 +27,10 @@ pub const OWN: u8 = 255;
 /// Why a question is not answered. What the numbers mean stands in `prismfleece.h`.
 #[derive(Clone, Copy, PartialEq, Eq, Debug)]
 pub struct Refusal {
-    /// From 1 to 10.
+    /// From 1 to 12.
     pub number: u8,
-    /// An offset in the file; for 9 the length needed; for a cell asked about the cell count; for 10 the cell count or the number of an entry.
+    /// An offset in the file or text, told as 2^32 - 1 if it is higher; for 9 the length needed; for a cell asked about the cell count; for 10 the cell
+    /// count or the number of an entry.
     pub place: usize,
 }
 
@@ -58,7 +60,7 @@ pub enum Judged {
     Right,
 }
 
-/// The reply to [`marks`] and [`reduce`].
+/// The reply to [`marks`], [`reduce`] and [`text`].
 #[derive(Clone, Copy, PartialEq, Eq, Debug)]
 pub enum Written<'a> {
     Refused(Refusal),
@@ -103,6 +105,13 @@ pub fn reduce<'a>(file: &[u8], out: &'a mut [u8]) -> Written<'a> {
     written(reply, out)
 }
 
+/// The case file of a typed text: one event for each line, `learn` or `make`, one space, a list of messages, and a line feed. Cells stand in order of
+/// first completion, none twice. [`FILE`] bytes of room are always enough.
+pub fn text<'a>(text: &[u8], out: &'a mut [u8]) -> Written<'a> {
+    let reply = numbers::text(text, out);
+    written(reply, out)
+}
+
 /// The refusal that a number tells, if it tells one.
 pub fn refusal(reply: u64) -> Option<Refusal> {
     let number = (reply >> 32) as u8;
@@ -124,7 +133,7 @@ fn written(reply: u64, out: &[u8]) -> Written<'_> {
     }
 }
 
-/// The same questions with the library's own replies: a refusal is number * 2^32 + place, "no" and "wrong" are 0, "right" is 1, and every other
+/// The same functions with the library's own replies: a refusal is number * 2^32 + place, "no" and "wrong" are 0, "right" is 1, and every other
 /// reply is 1 + the bytes written.
 pub mod numbers {
     unsafe extern "C" {
@@ -133,6 +142,7 @@ pub mod numbers {
         fn prismfleece_check(file: *const u8, file_len: usize, list: *const u8, list_len: usize) -> u64;
         fn prismfleece_marks(file: *const u8, file_len: usize, out: *mut u8, out_len: usize) -> u64;
         fn prismfleece_reduce(file: *const u8, file_len: usize, out: *mut u8, out_len: usize) -> u64;
+        fn prismfleece_text(text: *const u8, text_len: usize, out: *mut u8, out_len: usize) -> u64;
     }
 
     // Safe: each pointer comes with its slice's own length, `out` overlaps nothing since it is borrowed alone, and the library keeps no pointer.
@@ -155,5 +165,8 @@ pub mod numbers {
 
     pub fn reduce(file: &[u8], out: &mut [u8]) -> u64 {
         unsafe { prismfleece_reduce(file.as_ptr(), file.len(), out.as_mut_ptr(), out.len()) }
+    }
+    pub fn text(text: &[u8], out: &mut [u8]) -> u64 {
+        unsafe { prismfleece_text(text.as_ptr(), text.len(), out.as_mut_ptr(), out.len()) }
     }
 }

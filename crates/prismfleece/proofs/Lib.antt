@@ -5,4 +5,5 @@ pub mod RunLaws
 pub mod CheckLaws
 pub mod MarksLaws
 pub mod ReduceLaws
+pub mod TextLaws
 pub mod Theorems

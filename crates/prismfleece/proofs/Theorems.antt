@@ -1,8 +1,9 @@
 -- The main theorems of the exported face: a number tells its reply, two numbers for one input are equal, and the list check calls a run's list right.
 use mathlib.Core.Path.{_≡_, sym, _∙_, ap}
+use mathlib.Core.Logic.{_⊎_}
 use mathlib.Core.List.{List}
-use Prim.Native.Nat.{ℕ}
-use lib.ListN.{take}
+use Prim.Native.Nat.{ℕ, _-_, _^_, _≤_, _<_}
+use lib.ListN.{length, take}
 use Rattle.model.specs.Replies.{EquatedBy, RightListed, SameButList}
 use Rattle.building.specs.declared.Marked.{Marked}
 use Rattle.building.specs.Promise.{MarksPromise}
@@ -21,12 +22,17 @@ use Rattle.running.specs.declared.Solved.{Solved}
 use Rattle.running.specs.declared.Solved.the-variants.{Yes}
 use Rattle.running.specs.Promise.{RunPromise}
 use Rattle.running.proofs.Theorems.{run-settled}
-use Rattle.prismfleece.specs.Numbers.{equateNumber, EquateTold, runNumber, RunTold, checkNumber, CheckTold, marksNumber, MarksTold, reduceNumber, ReduceTold}
+use Rattle.grammar.specs.Text.{TextReply}
+use Rattle.grammar.proofs.Theorems.{reply-settled}
+use Rattle.typing.specs.declared.Entered.{Entered}
+use Rattle.typing.specs.Reply.{Refused, Written}
+use Rattle.prismfleece.specs.Numbers.{equateNumber, EquateTold, runNumber, RunTold, checkNumber, CheckTold, marksNumber, MarksTold, reduceNumber, ReduceTold, textNumber, TextTold}
 use Rattle.prismfleece.proofs.EquateLaws.{equate-fits, equate-tells}
 use Rattle.prismfleece.proofs.RunLaws.{run-fits, run-tells, shown-checked}
 use Rattle.prismfleece.proofs.CheckLaws.{check-fits, check-tells}
 use Rattle.prismfleece.proofs.MarksLaws.{marks-fits, marks-tells}
 use Rattle.prismfleece.proofs.ReduceLaws.{reduce-fits, reduce-tells}
+use Rattle.prismfleece.proofs.TextLaws.{text-tells, text-exact}
 
 -- ---- a number tells its reply: replies to whatever inputs that have one number are one
 
@@ -46,6 +52,17 @@ marks-number-one {r = r} {r′ = r′} p p′ = marks-tells r r′ (marks-fits _
 pub reduce-number-one : {file file′ before before′ after after′ : List ℕ} {r r′ : Reduced} → ReducePromise file before r after → ReducePromise file′ before′ r′ after′ → reduceNumber r ≡ reduceNumber r′ → r ≡ r′
 reduce-number-one {r = r} {r′ = r′} p p′ = reduce-tells r r′ (reduce-fits _ _ r _ p) (reduce-fits _ _ r′ _ p′)
 
+-- Of a typed text but for places of 2 ^ 32 - 1 or more,
+pub text-number-one : {text text′ before before′ after after′ : List ℕ} {r r′ : Entered} →
+    TextReply Refused Written text before r after → TextReply Refused Written text′ before′ r′ after′ → textNumber r ≡ textNumber r′ →
+    (r ≡ r′) ⊎ ((n : ℕ) × (p : ℕ) × (q : ℕ) × (r ≡ Refused n p) × (r′ ≡ Refused n q) × (2 ^ 32 - 1 ≤ p) × (2 ^ 32 - 1 ≤ q))
+text-number-one {text = text} {text′ = text′} {r = r} {r′ = r′} p p′ = text-tells text text′ r r′ p p′
+
+-- which no text of fewer bytes has.
+pub text-number-exact : {text text′ before before′ after after′ : List ℕ} {r r′ : Entered} →
+    TextReply Refused Written text before r after → TextReply Refused Written text′ before′ r′ after′ → length text < 2 ^ 32 - 1 → textNumber r ≡ textNumber r′ → r ≡ r′
+text-number-exact {text = text} {text′ = text′} {r = r} {r′ = r′} p p′ = text-exact text text′ r r′ p p′
+
 -- ---- two numbers that are told for one input are equal, and so are the buffers, but for which list is shown
 
 pub equate-number-settled : {file : List ℕ} {a b : ℕ} {before after after′ : List ℕ} {n n′ : ℕ} → EquateTold file a b before n after → EquateTold file a b before n′ after′ →
@@ -63,6 +80,9 @@ marks-number-settled (r, p, e) (r′, p′, e′) = let (i, s) = build-marks-set
 
 pub reduce-number-settled : {file before after after′ : List ℕ} {n n′ : ℕ} → ReduceTold file before n after → ReduceTold file before n′ after′ → (n ≡ n′) × (after ≡ after′)
 reduce-number-settled (r, p, e) (r′, p′, e′) = let (i, s) = reduce-settled p p′ in (e ∙ (ap reduceNumber i ∙ sym e′), s)
+
+pub text-number-settled : {text before after after′ : List ℕ} {n n′ : ℕ} → TextTold text before n after → TextTold text before n′ after′ → (n ≡ n′) × (after ≡ after′)
+text-number-settled (r, p, e) (r′, p′, e′) = let (i, s) = reply-settled Refused Written _ _ r r′ _ _ p p′ in (e ∙ (ap textNumber i ∙ sym e′), s)
 
 -- ---- the run and the list check
 

@@ -1,8 +1,8 @@
--- What a reply's number is made of, for all five questions; and that the number tells it.
+-- What a reply's number is made of, for all five questions and for typed text; and that the number tells it.
 use mathlib.Core.Path.{_≡_, sym, _∙_, ap}
 use mathlib.Core.List.{List}
 use mathlib.Core.Option.{some}
-use Prim.Native.Nat.{ℕ, _≤_}
+use Prim.Native.Nat.{ℕ, _^_, _≤_, _<_}
 use native.Mathlib.Omega.{arith}
 use lib.ListN.{length}
 use Rattle.model.specs.Case.{File}
@@ -21,9 +21,9 @@ abbrev pub number : Told → ℕ
 number (refusal n p) = refusalNumber n p
 number (small k) = k
 
--- It fits: refusals count from 1, and no place and no number of its own is above 899.
+-- It fits: refusals count from 1, no place is 2 ^ 32 or more, and no number of its own is above 899.
 abbrev pub Fits : Told → Type 0
-Fits (refusal n p) = (1 ≤ n) × (p ≤ 899)
+Fits (refusal n p) = (1 ≤ n) × (p < 2 ^ 32)
 Fits (small k) = k ≤ 899
 
 -- Numbers that fit and are equal are of one reply.
@@ -42,7 +42,7 @@ module _ {R : Type 0} (told : R → Told) (reply : Told → R) (back : (r : R) �
 
 module _ (file : List ℕ) where
   pub refused-fits : (n p : ℕ) → readFile file ≡ Reading.refused n p → Fits (refusal n p)
-  refused-fits n p e = let (x, y, z) = refused-place file n p e in (x, z)
+  refused-fits n p e = let (x, y, z) = refused-place file n p e in (x, omega arith)
 
   module _ (f : File) (e : readFile file ≡ Reading.accepted f) where
     pub few : length (f .cells) ≤ 128

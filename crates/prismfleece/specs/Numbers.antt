@@ -1,7 +1,7 @@
--- The replies of the five questions as numbers, and what a number tells.
+-- The replies of the five questions and of the reading of typed text as numbers, and what a number tells.
 use mathlib.Core.Path.{_≡_}
 use mathlib.Core.List.{List}
-use Prim.Native.Nat.{ℕ, _+_, _*_, _^_}
+use Prim.Native.Nat.{ℕ, _+_, _-_, _*_, _^_, min}
 use Rattle.building.specs.declared.Marked.{Marked}
 use Rattle.building.specs.declared.Marked.the-variants as marked
 use Rattle.building.specs.Promise.{MarksPromise}
@@ -17,6 +17,10 @@ use Rattle.reducing.specs.Promise.{ReducePromise}
 use Rattle.running.specs.declared.Solved.{Solved}
 use Rattle.running.specs.declared.Solved.the-variants as solved
 use Rattle.running.specs.Promise.{RunPromise}
+use Rattle.grammar.specs.Text.{TextReply}
+use Rattle.typing.specs.declared.Entered.{Entered}
+use Rattle.typing.specs.declared.Entered.the-variants as entered
+use Rattle.typing.specs.Reply.{Refused, Written}
 
 -- A refusal: its number, and its place below 2 ^ 32.
 abbrev pub refusalNumber : ℕ → ℕ → ℕ
@@ -69,3 +73,16 @@ reduceNumber (reduced.Reduced n) = n + 1
 -- The number r is that of a reply that keeps the promise of reducing.
 abbrev pub ReduceTold : List ℕ → List ℕ → ℕ → List ℕ → Type 0
 ReduceTold file before r after = (reply : Reduced) × ReducePromise file before reply after × (r ≡ reduceNumber reply)
+
+-- A place in a text as it is told: if it is 2 ^ 32 - 1 or more, as that.
+abbrev pub toldPlace : ℕ → ℕ
+toldPlace place = min place (2 ^ 32 - 1)
+
+-- Typed text.
+abbrev pub textNumber : Entered → ℕ
+textNumber (entered.Refused number place) = refusalNumber number (toldPlace place)
+textNumber (entered.Written n) = n + 1
+
+-- The number r is that of a reply that keeps the promise of typed text.
+abbrev pub TextTold : List ℕ → List ℕ → ℕ → List ℕ → Type 0
+TextTold text before r after = (reply : Entered) × TextReply Refused Written text before reply after × (r ≡ textNumber reply)

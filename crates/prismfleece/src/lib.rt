@@ -1,20 +1,33 @@
-// The face for callers in C and Rust: each question as an exported function whose reply is one number.
+// The face for callers in C and Rust: each question, and the reading of typed text, as an exported function whose reply is one number.
 // A refusal is number * 2^32 + place; "no" and "wrong" are 0; "right" is 1; every other reply is 1 + the bytes written.
+// A place of 2^32 - 1 or more, which only a text as long as that can have, is told as 2^32 - 1.
 use building::Marked;
 use checking::Judged;
 use equating::Equated;
 use reducing::Reduced;
 use running::Solved;
+use typing::Entered;
 ghost use mathlib.Core.Path.{_≡_};
-ghost use Prim.Native.Nat.{_≤_};
-ghost use Rattle.prismfleece.specs.Numbers.{refusalNumber, EquateTold, RunTold, CheckTold, MarksTold, ReduceTold};
+ghost use Prim.Native.Nat.{_<_, _^_};
+ghost use Rattle.prismfleece.specs.Numbers.{refusalNumber, toldPlace, EquateTold, RunTold, CheckTold, MarksTold, ReduceTold, TextTold};
 
 // The number of a refusal.
 fn refusal(number: u8, place: usize) -> u64
-    requires { ⌜ place ≤ 899 ⌝ }
+    requires { ⌜ place < 2 ^ 32 ⌝ }
     ensures { λ r. ⌜ r ≡ refusalNumber number place ⌝ }
 {
     number as u64 * 4294967296 + place as u64
+}
+
+// A place in a text as it is told.
+fn told_place(place: usize) -> usize
+    ensures { λ r. ⌜ r ≡ toldPlace place ⌝ }
+{
+    if place < 4294967295 {
+        place
+    } else {
+        4294967295
+    }
 }
 
 // Equating: the cells a and b of a file, the list in `out`.
@@ -77,5 +90,17 @@ pub extern "C" fn prismfleece_reduce(file: &[u8], out: &mut [u8]) -> u64
     match reply {
         Reduced::Refused(number, place) => refusal(number, place),
         Reduced::Reduced(n) => n as u64 + 1,
+    }
+}
+
+// Typed text: its case file in `out`.
+#[no_mangle]
+pub extern "C" fn prismfleece_text(text: &[u8], out: &mut [u8]) -> u64
+    ensures { λ r. ⌜ TextTold (now (text .entry)) (now (out .entry)) r (now (out .exit)) ⌝ }
+{
+    let reply = typing::read_text(text, out);
+    match reply {
+        Entered::Refused(number, place) => refusal(number, told_place(place)),
+        Entered::Written(n) => n as u64 + 1,
     }
 }

@@ -1,4 +1,4 @@
-// A question for each letter. `head` is the case from its letter to the file's length, `file` the file;
+// A question for each letter. `head` is the case from its letter to the file's length, `file` the file, or the typed text;
 // a reply is laid into `out`, which is longer than any room that a case asks for.
 use crate::print::print;
 use crate::print::print_hex;
@@ -13,6 +13,7 @@ use checking::Judged;
 use equating::Equated;
 use reducing::Reduced;
 use running::Solved;
+use typing::Entered;
 
 // The byte at `i`, or 0 where there is none.
 fn byte(s: &[u8], i: usize) -> u8 {
@@ -75,6 +76,22 @@ fn ask_reduced(room: usize, file: &[u8], out: &mut [u8]) {
         Reduced::Refused(number, place) => print_refused(number, place),
         Reduced::Reduced(n) => {
             print(b"reduced ");
+            print_hex(out, n);
+            print(b"\n");
+        }
+    }
+}
+
+// t: the case file of a typed text
+fn ask_text(room: usize, text: &[u8], out: &mut [u8]) {
+    if room > out.len() {
+        return;
+    }
+    let reply = typing::read_text(text, &mut out[..room]);
+    match reply {
+        Entered::Refused(number, place) => print_refused(number, place),
+        Entered::Written(n) => {
+            print(b"typed ");
             print_hex(out, n);
             print(b"\n");
         }
@@ -153,6 +170,7 @@ pub fn ask(head: &[u8], file: &[u8]) {
         b'm' => ask_marks(room, file, &mut out),
         b'r' => ask_reduced(room, file, &mut out),
         b'y' => ask_run(room, file, &mut out),
+        b't' => ask_text(room, file, &mut out),
         b'e' => ask_equated(
             byte(head, 1),
             byte(head, 2),

@@ -1,5 +1,5 @@
 // Reads a row of cases from standard input, asks each case's question, and prints one line for each reply.
-// A case is a letter for the question, what the question asks besides, two bytes for the file's length, high byte first, and the file.
+// A case is a letter for the question, what the question asks besides, two bytes for the file's length, high byte first, and the file, or a typed text.
 mod ask;
 mod print;
 
@@ -10,7 +10,7 @@ use libc::STDIN_FILENO;
 // How many bytes stand before the file's length, of a case that starts with these two bytes: the letter, and room, cells and room, or a list.
 fn head_size(letter: u8, next: u8) -> usize {
     match letter {
-        b'm' | b'r' | b'y' => 3,
+        b'm' | b'r' | b'y' | b't' => 3,
         b'e' => 4,
         b'l' => 2 + next as usize,
         _ => 1,
@@ -45,7 +45,7 @@ fn ask_all(input: &[u8]) -> usize {
 }
 
 fn main() {
-    let mut input = [0u8; 262144];
+    let mut input = [0u8; 393216];
     let n = io::read_full(STDIN_FILENO, &mut input);
     let count = ask_all(&input[..n]);
     print_number(count);

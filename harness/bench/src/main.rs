@@ -1,10 +1,11 @@
-//! Times of the library beside the published lazy intruder, and growth with the number of cells, as Markdown tables.
+//! Times of the library beside the published lazy intruder, growth with the number of cells, and reading long texts, as Markdown tables.
 
 mod clock;
 mod growth;
 mod measure;
 mod runs;
 mod stack;
+mod texts;
 
 use std::process::ExitCode;
 use std::time::Duration;
@@ -12,7 +13,7 @@ use std::time::Duration;
 use measure::Limits;
 
 const HELP: &str = "\
-bench: the library's run beside the lazy intruder, as published and with shortcuts, and its other questions by size.
+bench: the library's run beside the lazy intruder, as published and with shortcuts, its other questions by size, and long typed texts.
 
   --cases FOLDER      folder of *.case files (cases, else harness/cases)
   --family NAME       only that family, or those whose name begins with NAME and '-'
@@ -20,7 +21,7 @@ bench: the library's run beside the lazy intruder, as published and with shortcu
   --seed S            seed of the generated cases (1)
   --library-limit MS  time for one run of the library (10000)
   --lazy-limit MS     time for one run of the lazy intruder (2000)
-  --only runs|growth  one of the two tables
+  --only TABLE        runs, growth or texts alone
   --only list         no table: family, bytes and name of each case, for profile.sh
   --once BYTES        one run asked once, for profile.sh
   --only calls        no table: question and shape of each line of the second table, for profile.sh
@@ -56,7 +57,7 @@ fn options() -> Result<Options, String> {
             "--seed" => options.seed = number()?,
             "--library-limit" => options.limits.library = Duration::from_millis(number()?),
             "--lazy-limit" => options.limits.lazy = Duration::from_millis(number()?),
-            "--only" if ["runs", "growth", "list", "calls"].contains(&value.as_str()) => options.only = value,
+            "--only" if ["runs", "growth", "texts", "list", "calls"].contains(&value.as_str()) => options.only = value,
             "--measure" => options.measure = Some(bytes(&value)?),
             "--once" => options.once = Some(bytes(&value)?),
             "--call" => options.call = Some(value),
@@ -100,12 +101,14 @@ fn main() -> ExitCode {
     if !library::LINKED {
         println!("No library is linked: the column \"library\" shows a stand-in.\n");
     }
-    let mut agreed = true;
-    if options.only != "growth" {
-        agreed = runs::table(&options);
-    }
-    if options.only != "runs" {
+    let asked = |table: &str| options.only.is_empty() || options.only == table;
+    let agreed = !asked("runs") || runs::table(&options);
+    if asked("growth") {
         growth::table(options.seed);
+        println!();
+    }
+    if asked("texts") {
+        texts::table();
     }
     ExitCode::from(!agreed as u8)
 }

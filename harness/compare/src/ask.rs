@@ -11,7 +11,7 @@ use crate::options::Options;
 use crate::tally::Tally;
 use crate::worker::{Lost, Worker};
 
-/// One file being compared.
+/// One file or text being compared.
 pub struct Asking<'a> {
     pub options: &'a Options,
     pub tally: &'a mut Tally,
@@ -45,11 +45,12 @@ impl Asking<'_> {
     }
 
     /// A call whose reply the reference fixes to the last byte. Gives back whether it agreed.
-    fn exact(&mut self, question: &'static str, kind: &str, call: &Call, reply: &Reply, about: &str) -> bool {
+    pub fn exact(&mut self, question: &'static str, kind: &str, call: &Call, reply: &Reply, about: &str) -> bool {
         let room = call.before.len();
         let (fits, name) = match reply {
             Reply::Refused(number, place) => {
-                (call.refusal() == Some((*number as u64, *place as u64)) && call.untouched(), format!("refused {number:2}"))
+                let place = (*place).min(library::LAST_PLACE) as u64;
+                (call.refusal() == Some((*number as u64, place)) && call.untouched(), format!("refused {number:2}"))
             }
             Reply::No => (call.number == 0 && call.untouched(), kind.to_string()),
             Reply::Right => (call.number == 1 && call.untouched(), kind.to_string()),
@@ -72,7 +73,7 @@ impl Asking<'_> {
     }
 
     /// Rooms to try for a reply of `need` bytes: exactly that, one less, more, and none.
-    fn rooms(&mut self, need: usize) -> Vec<usize> {
+    pub fn rooms(&mut self, need: usize) -> Vec<usize> {
         let mut rooms = vec![need, need + self.chance.between(1, 40)];
         if need > 0 {
             rooms.push(need - 1);
@@ -81,7 +82,7 @@ impl Asking<'_> {
         rooms
     }
 
-    fn some_room(&mut self) -> usize {
+    pub fn some_room(&mut self) -> usize {
         *self.chance.pick(&[0, 1, 16, 128, 129, 1000])
     }
 

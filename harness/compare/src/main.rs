@@ -1,4 +1,4 @@
-//! Many case files through the library and through the reference, every reply compared.
+//! Many case files and typed texts through the library and through the reference, every reply compared.
 
 #![forbid(unsafe_code)]
 
@@ -7,6 +7,7 @@ mod buffers;
 mod options;
 mod smaller;
 mod tally;
+mod typed;
 mod worker;
 
 use std::io::IsTerminal;
@@ -50,28 +51,36 @@ fn main() -> ExitCode {
     let mut tally = Tally::default();
     let mut worker = Worker::new(&options);
     for number in options.from..options.from + options.files {
-        if options.trace {
-            eprintln!("file {number}");
+        let trace = |what: &str| options.trace.then(|| eprintln!("{what} {number}"));
+        if options.asks_files() {
+            trace("file");
+            let mut chance = Chance::of(options.seed, number);
+            let made = match given(&options, || made(&mut chance, &options)) {
+                Ok(made) => made,
+                Err(message) => return not_read(message),
+            };
+            if options.only {
+                println!("file {number}: {}\n{}", hex(&made.file), readable(&made.file));
+            }
+            tally.note(format!("files of shape {}", made.shape));
+            compare_file(&options, &mut tally, &mut worker, chance, number, &made);
         }
-        let mut chance = Chance::of(options.seed, number);
-        let made = match &options.path {
-            Some(path) => match std::fs::read(path) {
-                Ok(file) => Made { shape: "given", file },
-                Err(why) => {
-                    eprintln!("{path}: {why}");
-                    return ExitCode::from(2);
-                }
-            },
-            None => made(&mut chance, &options),
-        };
-        if options.only {
-            println!("file {number}: {}\n{}", hex(&made.file), readable(&made.file));
+        if options.asks("text") {
+            trace("text");
+            let mut chance = typed::chance(&options, number);
+            let made = match given(&options, || typed::made(&mut chance, &options)) {
+                Ok(made) => made,
+                Err(message) => return not_read(message),
+            };
+            if options.only {
+                println!("text {number}: {}", made.file.escape_ascii());
+            }
+            tally.note(format!("texts of shape {}", made.shape));
+            typed::compare_text(&options, &mut tally, &mut worker, chance, number, &made);
         }
-        tally.note(format!("files of shape {}", made.shape));
-        compare_file(&options, &mut tally, &mut worker, chance, number, &made);
         progress.show(number + 1 - options.from, options.files, &tally);
     }
-    tally.print(options.files, options.seed, start.elapsed());
+    tally.print(&options, start.elapsed());
     if let Some(first) = &tally.first {
         if let Some(small) = smaller::smaller(&options, &mut worker, first.question, &first.file) {
             println!("made smaller:\n{small}");
@@ -80,7 +89,20 @@ fn main() -> ExitCode {
     ExitCode::from(tally.status())
 }
 
-/// A file for comparing and the name of its shape.
+/// The file or text of the path, if one is given, or else a generated one.
+fn given(options: &Options, made: impl FnOnce() -> Made) -> Result<Made, String> {
+    match &options.path {
+        Some(path) => std::fs::read(path).map(|file| Made { shape: "given", file }).map_err(|why| format!("{path}: {why}")),
+        None => Ok(made()),
+    }
+}
+
+fn not_read(message: String) -> ExitCode {
+    eprintln!("{message}");
+    ExitCode::from(2)
+}
+
+/// A file or text for comparing and the name of its shape.
 pub struct Made {
     pub shape: &'static str,
     pub file: Vec<u8>,
@@ -93,7 +115,7 @@ fn made(chance: &mut Chance, options: &Options) -> Made {
         let (shape, case) = grown(chance.clone(), cells);
         return Made { shape, file: case.bytes() };
     }
-    if chance.percent(options.damaged) {
+    if chance.percent(options.damaged.unwrap_or(15)) {
         return Made { shape: "damaged", file: damaged(chance.clone()) };
     }
     let (shape, case) = shapes::any(chance.clone());

@@ -5,24 +5,25 @@ use std::time::Duration;
 
 use reference::casefile::MOST;
 
-pub const QUESTIONS: [&str; 5] = ["equate", "run", "check", "marks", "reduce"];
+pub const QUESTIONS: [&str; 6] = ["equate", "run", "check", "marks", "reduce", "text"];
 
 pub const HELP: &str = "\
-compare: case files through the library and through an independent reference, every reply compared.
+compare: case files and typed texts through the library and through an independent reference, every reply compared.
 
-  --files N        how many files (20000)
-  --seed S         the seed all files follow from (1)
-  --from I         number of the first file (0)
-  --only I         one file alone, shown with its replies
-  --questions Q,.. of equate, run, check, marks, reduce (all)
-  --damaged P      how many files of a hundred are damaged on purpose (15)
+  --files N        how many files, and as many texts (20000)
+  --seed S         the seed all files and texts follow from (1)
+  --from I         number of the first file and text (0)
+  --only I         one file and one text alone, shown with their replies
+  --questions Q,.. of equate, run, check, marks, reduce, and text, which alone asks the texts (all)
+  --damaged P      how many files or texts of a hundred are damaged on purpose (15 files, 50 texts)
   --cells LO..HI   only files of LO to HI cells, parts of several shapes in one, none damaged
   --sets N         constraint sets at which the lazy intruder stops unfinished (1500)
   --lists N        value lists up to which all are tried (1500)
   --file PATH      compare this file alone and no generated ones
+  --text PATH      compare this text alone and no generated ones
   --fault NAME     let the stand-in be wrong in a known way (only without the library)
   --limit MS       time for one run of the library (10000)
-  --trace          the number of each file before it is asked, for finding one that never ends or ends the program
+  --trace          the number of each file and text before it is asked, for finding one that never ends or ends the program
 
 Exit status: 0 if all replies agree, 1 if any differs, 2 for a flag not understood, 3 if none differs but some run is not ended in time.";
 
@@ -33,7 +34,8 @@ pub struct Options {
     pub from: u64,
     pub only: bool,
     pub questions: Vec<&'static str>,
-    pub damaged: usize,
+    /// How many of a hundred are damaged, where a flag says so.
+    pub damaged: Option<usize>,
     /// The numbers of cells to which files are grown; without it files of all shapes are made as they come.
     pub cells: Option<RangeInclusive<usize>>,
     pub sets: usize,
@@ -51,6 +53,11 @@ impl Options {
         self.questions.contains(&question)
     }
 
+    /// Whether any question is asked of files.
+    pub fn asks_files(&self) -> bool {
+        self.questions.iter().any(|&question| question != "text")
+    }
+
     /// What holds where no flag says otherwise.
     fn usual() -> Options {
         Options {
@@ -59,7 +66,7 @@ impl Options {
             from: 0,
             only: false,
             questions: QUESTIONS.to_vec(),
-            damaged: 15,
+            damaged: None,
             cells: None,
             sets: 1500,
             lists: 1500,
@@ -101,14 +108,15 @@ impl Options {
                 self.only = true;
             }
             "--questions" => self.questions = questions(&value)?,
-            "--damaged" => self.damaged = number()? as usize,
+            "--damaged" => self.damaged = Some(number()? as usize),
             "--cells" => self.cells = Some(cells(&value)?),
             "--sets" => self.sets = number()? as usize,
             "--lists" => self.lists = number()? as usize,
-            "--file" => {
+            "--file" | "--text" => {
                 self.path = Some(value);
                 self.files = 1;
                 self.only = true;
+                self.questions.retain(|&question| (question == "text") == (flag == "--text"));
             }
             "--fault" => self.fault = value,
             "--limit" => self.limit = Duration::from_millis(number()?),

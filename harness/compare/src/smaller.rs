@@ -1,4 +1,4 @@
-//! Makes a differing file smaller, as long as the same question still differs.
+//! Makes a differing file or text smaller, as long as the same question still differs.
 
 use generator::chance::Chance;
 use reference::casefile::{read, CaseFile, Cell, Event};
@@ -6,14 +6,19 @@ use reference::casefile::{read, CaseFile, Cell, Event};
 use crate::options::Options;
 use crate::tally::{Difference, Tally};
 use crate::worker::Worker;
-use crate::{compare_file, Made};
+use crate::{compare_file, typed, Made};
 
-/// How the question still differs on the file, tried with a few sources of chance.
+/// The longest parts that are taken from a text one after the other.
+const SHORT: usize = 40;
+
+/// How the question still differs on the file or text, tried with a few sources of chance.
 fn difference(options: &Options, worker: &mut Worker, question: &'static str, file: &[u8]) -> Option<Difference> {
     let narrow = Options { questions: vec![question], ..options.clone() };
-    (0..12).find_map(|start| {
+    let tries = if question == "text" { 2 } else { 12 };
+    (0..tries).find_map(|start| {
         let mut tally = Tally::default();
-        compare_file(&narrow, &mut tally, worker, Chance::new(start), 0, &Made { shape: "smaller", file: file.to_vec() });
+        let compare = if question == "text" { typed::compare_text } else { compare_file };
+        compare(&narrow, &mut tally, worker, Chance::new(start), 0, &Made { shape: "smaller", file: file.to_vec() });
         tally.first
     })
 }
@@ -71,8 +76,38 @@ fn steps(case: &CaseFile) -> Vec<CaseFile> {
     steps
 }
 
-/// A difference on a file that no step makes smaller without losing it; nothing if the file is refused anyway.
+/// The text without a part, if the difference is still there.
+fn without(options: &Options, worker: &mut Worker, text: &[u8], part: std::ops::Range<usize>) -> Option<Vec<u8>> {
+    let less = [&text[..part.start], &text[part.end.min(text.len())..]].concat();
+    difference(options, worker, "text", &less).map(|_| less)
+}
+
+/// A difference on a text from which nothing short can be taken away without losing it.
+fn smaller_text(options: &Options, worker: &mut Worker, text: &[u8]) -> Option<Difference> {
+    let mut text = text.to_vec();
+    let mut width = text.len();
+    while width > 0 {
+        let mut at = 0;
+        while at < text.len() {
+            match without(options, worker, &text, at..at + width) {
+                Some(less) => text = less,
+                None => at += width,
+            }
+        }
+        width /= 2;
+    }
+    let parts = |size: usize| (1..=SHORT.min(size)).rev().flat_map(move |width| (0..=size - width).map(move |at| at..at + width));
+    while let Some(less) = parts(text.len()).find_map(|part| without(options, worker, &text, part)) {
+        text = less;
+    }
+    difference(options, worker, "text", &text)
+}
+
+/// A difference on a file that no step makes smaller without losing it, or on such a text; nothing if the file is refused anyway.
 pub fn smaller(options: &Options, worker: &mut Worker, question: &'static str, file: &[u8]) -> Option<Difference> {
+    if question == "text" {
+        return smaller_text(options, worker, file);
+    }
     let mut case = read(file).ok()?;
     let mut keeps = |next: &CaseFile| read(&next.bytes()).is_ok() && difference(options, worker, question, &next.bytes()).is_some();
     while let Some(next) = steps(&case).into_iter().find(|next| keeps(next)) {

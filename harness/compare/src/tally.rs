@@ -5,6 +5,8 @@ use std::time::Duration;
 
 use generator::text::{hex, readable};
 
+use crate::options::Options;
+
 /// One difference between the library and the reference.
 pub struct Difference {
     pub number: u64,
@@ -15,6 +17,9 @@ pub struct Difference {
 
 impl std::fmt::Display for Difference {
     fn fmt(&self, f: &mut std::fmt::Formatter) -> std::fmt::Result {
+        if self.question == "text" {
+            return write!(f, "  {}\n  text: {}\n", self.what, self.file.escape_ascii());
+        }
         write!(f, "  question {}: {}\n  hex: {}\n{}", self.question, self.what, hex(&self.file), readable(&self.file))
     }
 }
@@ -62,8 +67,14 @@ impl Tally {
         }
     }
 
-    pub fn print(&self, files: u64, seed: u64, time: Duration) {
-        println!("{files} files, {} replies, seed {seed}, {:.1} s", self.calls, time.as_secs_f64());
+    pub fn print(&self, options: &Options, time: Duration) {
+        let (files, seed) = (options.files, options.seed);
+        let asked = match (options.asks_files(), options.asks("text")) {
+            (true, true) => format!("{files} files and as many texts"),
+            (false, true) => format!("{files} texts"),
+            _ => format!("{files} files"),
+        };
+        println!("{asked}, {} replies, seed {seed}, {:.1} s", self.calls, time.as_secs_f64());
         let mut last = "";
         for ((question, kind), count) in &self.replies {
             if *question != last {
@@ -86,7 +97,8 @@ impl Tally {
         }
         println!("differences: {}", self.differences);
         if let Some(first) = &self.first {
-            println!("first difference, file {} of seed {seed}:\n{first}", first.number);
+            let what = if first.question == "text" { "text" } else { "file" };
+            println!("first difference, {what} {} of seed {seed}:\n{first}", first.number);
         }
     }
 }

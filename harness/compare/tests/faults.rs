@@ -36,3 +36,16 @@ fn late_runs() {
     assert_eq!(late.status.code(), Some(3), "{told}");
     assert!(told.contains("runs not ended in time: 3, files [0, 1, 2]"), "{told}");
 }
+
+/// A given file is asked as a file, a given text as a text; either may be anything.
+#[test]
+fn given() {
+    let path = concat!(env!("CARGO_MANIFEST_DIR"), "/Cargo.toml");
+    for (flag, asked, refused) in [("--file", "1 files", "refused  2"), ("--text", "1 texts", "refused 11")] {
+        let told = compare(&[flag, path]);
+        let text = String::from_utf8_lossy(&told.stdout).into_owned();
+        assert_eq!(told.status.code(), Some(0), "{text}");
+        assert!(text.contains(asked) && text.contains(refused), "{text}");
+        assert_eq!(compare(&[flag, "no such file"]).status.code(), Some(2));
+    }
+}

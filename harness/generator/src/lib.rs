@@ -1,4 +1,4 @@
-//! Case files made by rule from a seed: of every shape that is easy to get wrong, and damaged on purpose.
+//! Case files and typed texts made by rule from a seed: of every shape that is easy to get wrong, and damaged on purpose.
 
 #![forbid(unsafe_code)]
 
@@ -10,6 +10,8 @@ pub mod exchanges;
 pub mod families;
 pub mod grown;
 pub mod large;
+pub mod mistyped;
 pub mod planted;
 pub mod shapes;
 pub mod text;
+pub mod typed;

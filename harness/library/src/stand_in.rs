@@ -1,14 +1,15 @@
-//! A stand-in for the library: the plain second way of the reference, and for a run the lazy intruder, as published and, where that stays
-//! unfinished, with shortcuts.
+//! A stand-in for the library: the plain second way of the reference, for typed text the productions of its grammar, and for a run the lazy intruder,
+//! as published and, where that stays unfinished, with shortcuts.
 
 use std::sync::atomic::{AtomicUsize, Ordering};
 
 use reference::casefile::{read, Event};
+use reference::grammar::{self, Rules as Typing, ASKED};
 use reference::lazy::{Rules, PUBLISHED, SHORTENED};
 use reference::plain;
 use reference::questions::{self, Reply};
 
-use crate::{FAULTS, UNFINISHED};
+use crate::{FAULTS, LAST_PLACE, UNFINISHED};
 
 static FAULT: AtomicUsize = AtomicUsize::new(0);
 
@@ -28,7 +29,7 @@ fn given(reply: Reply, out: &mut [u8]) -> u64 {
         _ if fault() == "refuses-all" => 1 << 32,
         Reply::Refused(number, place) => {
             let off = (fault() == "place-off" && number == 5) as usize;
-            ((number as u64) << 32) + (place + off) as u64
+            ((number as u64) << 32) + (place + off).min(LAST_PLACE) as u64
         }
         Reply::No => 0,
         Reply::Right => 1,
@@ -90,4 +91,26 @@ pub fn marks(file: &[u8], out: &mut [u8]) -> u64 {
 
 pub fn reduce(file: &[u8], out: &mut [u8]) -> u64 {
     given(plain::reduce(file, out.len(), fault() == "drops-known-bodies"), out)
+}
+
+/// How texts are read, with the fault chosen.
+fn typing() -> Typing {
+    match fault() {
+        "leading-zeros" => Typing { zeros: true, ..ASKED },
+        "nests-deeper" => Typing { deepest: 17, ..ASKED },
+        "key-not-deeper" => Typing { key: 0, ..ASKED },
+        "deep-before-wrong" => Typing { deep_first: true, ..ASKED },
+        "full-before-wrong" => Typing { full_first: true, ..ASKED },
+        "pairs-to-the-left" => Typing { to_the_left: true, ..ASKED },
+        "enters-twice" => Typing { twins: true, ..ASKED },
+        "key-before-body" => Typing { key_first: true, ..ASKED },
+        "learns-unmade" => Typing { loose: true, ..ASKED },
+        "no-line-feed" => Typing { open_end: true, ..ASKED },
+        "variables-by-line" => Typing { by_line: true, ..ASKED },
+        _ => ASKED,
+    }
+}
+
+pub fn text(text: &[u8], out: &mut [u8]) -> u64 {
+    given(grammar::file(text, out.len(), typing()), out)
 }

@@ -44,3 +44,19 @@ fn bytes() {
     assert_eq!(marks(&file("VA EN"), &mut out), refused(8, 0, Written::Refused));
     assert_eq!(Refusal { number: 8, place: 0 }.to_string(), "refused 8 at 0");
 }
+
+#[test]
+fn typed() {
+    let mut out = [7; FILE];
+    let made = file("AT 0001 AT 0002 PR 00 01 AT 0007 SE 02 03 AP 09 00 LN 04 MK 05 EN");
+    assert_eq!(text(b"learn {|a1,a2|}a7\nmake f9(a1)\n", &mut out), Written::Bytes(&made));
+    assert_eq!(out[made.len()..], [7; FILE][made.len()..]);
+    assert_eq!(text(b"", &mut out), Written::Bytes(b"EN"));
+    assert_eq!(text(b"make a01\n", &mut out), refused(11, 7, Written::Refused));
+    assert_eq!(text(b"make a1", &mut out), refused(11, 7, Written::Refused));
+    assert_eq!(text(b"make (((((((((((((((((a1)))))))))))))))))\n", &mut out), refused(12, 22, Written::Refused));
+    assert_eq!(text(b"make a1\nlearn X1\n", &mut out), refused(6, 8, Written::Refused));
+    assert_eq!(text(&b"make a1\n".repeat(129), &mut out), refused(4, 1024, Written::Refused));
+    assert_eq!(text(b"make a1\n", &mut out[..8]), refused(9, 9, Written::Refused));
+    assert_eq!(text(b"", &mut []), refused(9, 2, Written::Refused));
+}

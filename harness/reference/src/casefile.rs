@@ -5,7 +5,7 @@ use crate::terms::{Id, Node, Terms};
 /// The most cells, and the most events, of a file.
 pub const MOST: usize = 128;
 
-#[derive(Clone, Copy, PartialEq, Eq, Debug)]
+#[derive(Clone, Copy, PartialEq, Eq, Hash, Debug)]
 pub enum Cell {
     Atom(u16),
     Var,

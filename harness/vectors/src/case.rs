@@ -2,20 +2,35 @@
 
 use generator::text::hex;
 use reference::casefile::{read, CaseFile, Cell, Refusal};
+use reference::grammar::{self, ASKED};
 use reference::lazy::Limit;
 use reference::questions::{self, Reply};
-use reference::{plain, searches};
+use reference::{plain, searches, typed};
 
 /// The question, and what it asks besides the file.
 #[derive(Clone)]
 pub enum Asked {
     File,
-    Marks { room: usize },
-    Reduced { room: usize },
-    Equated { a: u8, b: u8, room: u8 },
-    Run { room: usize },
+    Marks {
+        room: usize,
+    },
+    Reduced {
+        room: usize,
+    },
+    Equated {
+        a: u8,
+        b: u8,
+        room: u8,
+    },
+    Run {
+        room: usize,
+    },
     List(Vec<u8>),
     Printed,
+    /// The file is a typed text.
+    Typed {
+        room: usize,
+    },
 }
 
 #[derive(Clone)]
@@ -71,6 +86,7 @@ impl Case {
             Asked::Run { room } => with_room(b'y', *room),
             Asked::List(list) => [&[b'l', list.len() as u8][..], list].concat(),
             Asked::Printed => b"p".to_vec(),
+            Asked::Typed { room } => with_room(b't', *room),
         };
         [&head[..], &two_bytes(self.file.len()), &self.file].concat()
     }
@@ -90,6 +106,7 @@ impl Case {
             Asked::Run { room } => self.run(*room)?,
             Asked::List(list) => told("", both(questions::check(file, list), plain::check(file, list))?),
             Asked::Printed => self.printed()?,
+            Asked::Typed { room } => told("typed", both(typed::file(file, *room), grammar::file(file, *room, ASKED))?),
         })
     }
 

@@ -9,6 +9,7 @@ mod ground;
 mod runs;
 mod sections;
 mod texts;
+mod typed;
 
 use std::collections::BTreeMap;
 use std::path::{Path, PathBuf};
@@ -16,8 +17,8 @@ use std::process::ExitCode;
 
 use sections::Section;
 
-/// The most bytes that the program `vectors` reads.
-const MOST_BYTES: usize = 262_144;
+/// The most bytes that the program `vectors` reads: the length of `input` in its `main`.
+const MOST_BYTES: usize = 393_216;
 
 const HELP: &str = "\
 vectors FOLDER: writes FOLDER/stdin, a row of cases, and FOLDER/stdout, the lines that they must print.
@@ -32,6 +33,7 @@ A case is the question's letter, what it asks besides, two bytes for the file's 
   y  room in two bytes                      yes, or no
   l  a list after a byte for its length     right, or wrong
   p  nothing                                the lines of the program run
+  t  room in two bytes                      typed HEX; the file is a typed text
 or, for each letter, refused NUMBER at PLACE. The last line counts the cases. Everything follows from fixed seeds.
 
 Where several lists are right, the line has the one that the library shows, if the reference judges it right: so the library must be linked.

@@ -8,7 +8,7 @@ use reference::casefile::written;
 
 use crate::case::{Asked, Case};
 use crate::texts::{self, bounds, many_variables, named, of};
-use crate::{equating, files, ground, runs};
+use crate::{equating, files, ground, runs, typed};
 
 /// A room that every reply fits.
 pub const WIDE: usize = 1000;
@@ -26,6 +26,7 @@ pub fn sections() -> Result<Vec<Section>, String> {
         ("run", run(&mut Chance::of(1, 4))?),
         ("list", list(&mut Chance::of(1, 5))?),
         ("print", printed()),
+        ("text", typed(&mut Chance::of(1, 6))),
     ])
 }
 
@@ -64,6 +65,13 @@ fn list(chance: &mut Chance) -> Result<Vec<Case>, String> {
 fn printed() -> Vec<Case> {
     let texts = named().into_iter().map(|(_, text)| text).chain(bounds()).chain(many_variables());
     texts.map(|text| Case { asked: Asked::Printed, file: written(&text) }).collect()
+}
+
+/// Typed texts, each once in the same room.
+pub fn typed(chance: &mut Chance) -> Vec<Case> {
+    let mut met = HashSet::new();
+    let once = typed::texts(chance).into_iter().filter(|case| met.insert(case.clone()));
+    with_room(once, |room| Asked::Typed { room })
 }
 
 fn with_room(cases: impl Iterator<Item = (usize, Vec<u8>)>, asked: fn(usize) -> Asked) -> Vec<Case> {

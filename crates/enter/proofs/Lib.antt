@@ -1,0 +1,4 @@
+-- The laws of the program's reading, its reply and the line of a refusal.
+pub mod SpotLaws
+pub mod PutLaws
+pub mod EnterLaws
