@@ -2,6 +2,7 @@
 use cells::Meeting;
 use cells::Table;
 use cells::cell_at;
+ghost use Prim.Native.Nat.{_≤_};
 ghost use mathlib.Core.Path.{_≡_};
 ghost use Rattle.model.specs.Message.{Two};
 ghost use Rattle.model.specs.Case.{TWO};
@@ -21,6 +22,21 @@ pub fn class_byte(rep: &[u8; 129], c: usize) -> u8
     ensures { λ r. ⌜ r ≡ classAt (now (rep .entry)) c ⌝ }
 {
     if c < 128 { rep[c] } else { rep[128] }
+}
+
+// A byte as a number.
+fn number(x: u8) -> usize
+    ensures { λ r. ⌜ r ≡ x ⌝ }
+{
+    x as usize
+}
+
+// The same of a cell that is known to have an entry.
+pub fn class_within(rep: &[u8; 129], c: usize) -> usize
+    requires { ⌜ c ≤ 128 ⌝ }
+    ensures { λ r. ⌜ r ≡ classAt (now (rep .entry)) c ⌝ }
+{
+    number(rep[c])
 }
 
 // The cell that stands for the class of c, as a number.

@@ -8,6 +8,7 @@ mod twins;
 pub mod upward;
 
 pub use alike::class_of;
+pub use alike::class_within;
 use cells::Table;
 pub use closing::settle;
 pub use joins::join;

@@ -10,6 +10,7 @@ use cells::made_of;
 use cells::opens;
 use cells::parts_of;
 use classes::class_of;
+use classes::class_within;
 ghost use mathlib.Core.Path.{_≡_};
 ghost use Prim.Native.Nat.{ℕ, _≤_, _<_};
 ghost use Rattle.model.specs.Case.{Part};
@@ -83,7 +84,7 @@ pub fn has<'a>(n: usize, rep: &'a [u8; 129], marks: &'a [u8; 129], x: u8) -> boo
     requires { ⌜ x ≤ 128 ⌝ }
     ensures { λ r. ⌜ Decides r (On (now (marks .entry)) (classAt (now (rep .entry)) x)) ⌝ }
 {
-    let t = class_of(rep, cell(x));
+    let t = class_within(rep, cell(x));
     marks[t] == 1
 }
 
@@ -159,7 +160,7 @@ fn newly<'a>(
     requires { ⌜ c < n ⌝ }
     ensures { λ r. ⌜ Decides r (Newly (tableIn (now (table .entry))) (now (rep .entry)) (now (seen .entry)) (now (built .entry)) c) ⌝ }
 {
-    if class_of(rep, c) != c {
+    if class_within(rep, c) != c {
         return false;
     }
     if built[c] == 1 {
@@ -189,7 +190,7 @@ fn shows<'a>(
     requires { ⌜ c < n ⌝ }
     ensures { λ r. ⌜ Finds (tableIn (now (table .entry))) (now (rep .entry)) (now (seen .entry)) (now (built .entry)) c r ⌝ }
 {
-    if class_of(rep, c) != c {
+    if class_within(rep, c) != c {
         return Shown::Nothing;
     }
     if seen[c] != 1 {

@@ -11,13 +11,13 @@ use Rattle.knowledge.proofs.newly.Tie as tie
 
 -- Past the first test the cell stands for its class.
 stands : (o : tie.Else1) → classAt (o .before .before .args .rep .now) (o .before .before .args .c) ≡ o .before .before .args .c
-stands o = sym (o .before .class-of .ensures) ∙ o .if1 .left
+stands o = sym (o .before .class-within .ensures) ∙ o .if1 .left
 
-class-of-requires : tie.Need-class-of-requires
-class-of-requires c κs = search needs
+class-within-requires : tie.Need-class-within-requires
+class-within-requires c κs = search needs
 
 returns : tie.Need-returns
-returns c = decides-no (λ w. c .if1 .taken (c .before .class-of .ensures ∙ w .stands))
+returns c = decides-no (λ w. c .if1 .taken (c .before .class-within .ensures ∙ w .stands))
 
 element-copy-out-if2 : tie.Need-element-copy-out-if2
 element-copy-out-if2 c = search needs
@@ -67,7 +67,7 @@ pub newly-spec : {M : Type 1} → statement M
 newly-spec =
     tie.close
     (tie.spec
-    class-of-requires
+    class-within-requires
     returns
     element-copy-out-if2
     returns-2

@@ -24,7 +24,7 @@ abbrev shown : tie.After-cell-within → Cell
 shown q = asCell (q .cell-within .result)
 
 stands : (q : tie.After-cell-within) → classAt (start q .args .rep .now) (start q .args .c) ≡ start q .args .c
-stands q = let o = q .before .before .before in sym (o .before .class-of .ensures) ∙ o .if1 .left
+stands q = let o = q .before .before .before in sym (o .before .class-within .ensures) ∙ o .if1 .left
 
 -- What is told of its parts.
 gives : (e : tie.Else3) → let q = e .before .before in Gives (shown q) (start q .args .rep .now) (start q .args .built .now)
@@ -36,11 +36,11 @@ left p = let q = p .before .before .before in omega (arith, p .part-classes .ens
 right : (p : tie.After-part-classes) → p .part-classes .result .right < 129
 right p = let q = p .before .before .before in omega (arith, p .part-classes .ensures .1, start q .pre .1 .0 .low (rightPart (shown q) (start q .args .c)))
 
-class-of-requires : tie.Need-class-of-requires
-class-of-requires c κs = search needs
+class-within-requires : tie.Need-class-within-requires
+class-within-requires c κs = search needs
 
 returns : tie.Need-returns
-returns c = Finds.nothing (λ w. c .if1 .taken (c .before .class-of .ensures ∙ w .stands))
+returns c = Finds.nothing (λ w. c .if1 .taken (c .before .class-within .ensures ∙ w .stands))
 
 element-copy-out-if2 : tie.Need-element-copy-out-if2
 element-copy-out-if2 c = search needs
@@ -100,7 +100,7 @@ pub shows-spec : {M : Type 1} → statement M
 shows-spec =
     tie.close
     (tie.spec
-    class-of-requires
+    class-within-requires
     returns
     element-copy-out-if2
     returns-2
