@@ -18,7 +18,7 @@
  * `list`, which are only read, may overlap.
  *
  * No function allocates, keeps state or calls back; all may be called from several threads at once. The deepest call, a run, takes at most about 210 KB
- * of stack (reckoned; the most that was measured is 50 KB).
+ * of stack (reckoned; the most that was measured is 50 KB); a text takes at most 170 KB (167,392 bytes measured at 16 nestings).
  */
 #ifndef PRISMFLEECE_H
 #define PRISMFLEECE_H
