@@ -1,4 +1,7 @@
 // The question build marks: for each cell of a file without variables, can its message be built from all LN messages?
+
+#![tactic(auto)]
+
 ghost use Rattle.std.specs.Prelude.{ℕ, ◌≤◌, length};
 ghost use Rattle.theory.specs.Cells.{class_at};
 ghost use Rattle.building.specs.Promise.{MarksPromise};

@@ -1,4 +1,7 @@
 // The reader of case files: from any bytes to a table and a run by value, or to a refusal with its number and place.
+
+#![tactic(auto)]
+
 pub mod events;
 mod record;
 mod rest;
@@ -15,21 +18,21 @@ use events::Verdict;
 use table::Stop;
 
 // One word for each of so many cells, or events, then zeros.
-#[derive(Drop)]
+#[derive(Clone, Copy)]
 pub struct Words {
     pub words: [u32; 128],
     pub count: usize,
 }
 
 // The offset of the first VA record.
-#[derive(Drop)]
+#[derive(Clone, Copy)]
 pub enum Found {
     At(usize),
     Nowhere,
 }
 
 // What is read of a file: the reply to it and, where it is accepted, its table, its run and the offset of the first VA. A refusal comes with no cell and no event.
-#[derive(Drop)]
+#[derive(Clone, Copy)]
 pub struct Case {
     pub verdict: Verdict,
     pub table: Words,

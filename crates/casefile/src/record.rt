@@ -6,7 +6,7 @@ ghost use Rattle.casefile.specs.Record.{kind_for, known_as, mark_at, record_says
 use cells::{Cell, Event};
 
 // The kinds of records.
-#[derive(Drop)]
+#[derive(Clone, Copy)]
 pub enum Kind {
     Atom,
     Variable,
@@ -19,7 +19,7 @@ pub enum Kind {
 }
 
 // What stands where a mark is due: a known mark, an unknown one, or fewer bytes than a mark has.
-#[derive(Drop)]
+#[derive(Clone, Copy)]
 pub enum Mark {
     Known(Kind),
     Unknown,
@@ -27,7 +27,7 @@ pub enum Mark {
 }
 
 // A record read is exactly one of eight kinds, each with its own fields.
-#[derive(Drop)]
+#[derive(Clone, Copy)]
 pub enum Record {
     Atom(u16),
     Variable,
@@ -40,7 +40,7 @@ pub enum Record {
 }
 
 // What a record says: a cell, an event, or the end.
-#[derive(Drop)]
+#[derive(Clone, Copy)]
 pub enum Said {
     Cell(Cell),
     Event(Event),
@@ -48,7 +48,7 @@ pub enum Said {
 }
 
 // What stands where a record is due: a whole one; the mark of a cell, or of an event, without all of its fields; an unknown mark, or a cut one.
-#[derive(Drop)]
+#[derive(Clone, Copy)]
 pub enum Front {
     Whole(Record),
     ShortCell,

@@ -12,7 +12,7 @@ use super::record::{Front, Said};
 use cells::{Cell, Event, Parts, Table};
 
 // What is found where an event record may stand: one more event, the end, or a fault.
-#[derive(Drop)]
+#[derive(Clone, Copy)]
 enum EventStep {
     Next(Event),
     End,
@@ -20,7 +20,7 @@ enum EventStep {
 }
 
 // The events of a file with the reply to it.
-#[derive(Drop)]
+#[derive(Clone, Copy)]
 pub struct EventsEnd {
     pub verdict: Verdict,
     pub run: Words,

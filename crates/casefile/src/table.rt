@@ -10,7 +10,7 @@ use super::record::{Front, Said};
 use cells::{Cell, Parts};
 
 // What is found where a cell record may stand: one more cell, the events' first record, or a fault.
-#[derive(Drop)]
+#[derive(Clone, Copy)]
 enum CellStep {
     Next(Cell),
     Events,
@@ -18,14 +18,14 @@ enum CellStep {
 }
 
 // Why the cell records end: the events begin, or a record is at fault.
-#[derive(Drop)]
+#[derive(Clone, Copy)]
 pub enum Stop {
     Events,
     Refused(u8),
 }
 
 // The cells of a file, and the offset where their records end.
-#[derive(Drop)]
+#[derive(Clone, Copy)]
 pub struct CellsEnd {
     pub stop: Stop,
     pub at: usize,

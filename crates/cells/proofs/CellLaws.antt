@@ -1,10 +1,6 @@
 -- What the words of cells and events show, by their kinds; two answers to one question are equal.
 use mathlib.Core.Path.{◌≡◌, refl, sym, ◌∙◌, ap, subst}
-use mathlib.Core.Logic.{⊎_elim}
 use mathlib.Core.Bool.{false}
-use mathlib.Core.List.{[], ◌∷◌}
-use types.Run.{OneOf}
-use denote.Enum.Declared as declared
 use Prim.Native.Nat.{ℕ, zero, suc, ◌+◌, ◌*◌}
 use native.Mathlib.Omega.{arith}
 use Rattle.model.specs.Message.{Two}
@@ -21,8 +17,6 @@ use Rattle.theory.proofs.Decides.{decides_no}
 use Rattle.cells.specs.Cells.{as_cell, as_event, MadeOf, Opens, Meets, none, one, two, shut, open_pair, locked, unlike, same}
 use Rattle.cells.specs.declared.Cell.{Cell}
 use Rattle.cells.specs.declared.Cell.TheVariants as cell
-use Rattle.cells.specs.contracts.Cell as tags
-use Rattle.cells.specs.contracts.Opening as opening-tags
 use Rattle.cells.specs.declared.Opening.{Opening}
 use Rattle.cells.specs.declared.Meeting.{Meeting}
 use Rattle.cells.specs.declared.Event.{Event}
@@ -111,13 +105,9 @@ alike_names Likes.atoms = refl
 alike_functions : {f a g x : ℕ} → Alike {A = Unit} (λ d. tt) (AP f a) (AP g x) → f ≡ g
 alike_functions (Likes.ones e) = refl
 
--- A tag that is one of four others is not 0, 2, 3 or 4.
-none_of : {P : Type 0} {a b c d t : ℕ} → OneOf (a ∷ b ∷ c ∷ d ∷ []) t → (t ≡ a → P) → (t ≡ b → P) → (t ≡ c → P) → (t ≡ d → P) → P
-none_of h p q r s = ⊎_elim p (⊎_elim q (⊎_elim r s)) h
-
 module _ {n : ℕ} where
-  pub unlike_name : (d : Cell) → OneOf (1 ∷ 2 ∷ 3 ∷ 4 ∷ []) (declared.tag_of tags.the_type d) → Meets (AT n) (as_cell d) meeting.Unlike
-  unlike_name (cell.Atom m) h = none_of h (λ z. absurd (omega arith)) (λ z. absurd (omega arith)) (λ z. absurd (omega arith)) (λ z. absurd (omega arith))
+  pub unlike_name : (d : Cell) → ((m : ℕ) → d ≡ cell.Atom m → ⊥) → Meets (AT n) (as_cell d) meeting.Unlike
+  unlike_name (cell.Atom m) h = absurd (h m refl)
   unlike_name cell.Variable h = unlike λ x. elim x [ ]
   unlike_name (cell.Pair x y) h = unlike λ x. elim x [ ]
   unlike_name (cell.Seal x y) h = unlike λ x. elim x [ ]
@@ -130,32 +120,32 @@ module _ {n : ℕ} where
   other_name e z = rw e (unlike λ x. z (alike_names x))
 
 module _ {a b : ℕ} where
-  pub unlike_pair : (d : Cell) → OneOf (0 ∷ 1 ∷ 3 ∷ 4 ∷ []) (declared.tag_of tags.the_type d) → Meets (PR a b) (as_cell d) meeting.Unlike
+  pub unlike_pair : (d : Cell) → ((x y : ℕ) → d ≡ cell.Pair x y → ⊥) → Meets (PR a b) (as_cell d) meeting.Unlike
   unlike_pair (cell.Atom m) h = unlike λ x. elim x [ ]
   unlike_pair cell.Variable h = unlike λ x. elim x [ ]
-  unlike_pair (cell.Pair x y) h = none_of h (λ z. absurd (omega arith)) (λ z. absurd (omega arith)) (λ z. absurd (omega arith)) (λ z. absurd (omega arith))
+  unlike_pair (cell.Pair x y) h = absurd (h x y refl)
   unlike_pair (cell.Seal x y) h = unlike λ x. elim x [ ]
   unlike_pair (cell.Apply g x) h = unlike λ x. elim x [ ]
 
   pub two_pair : {d : Cell} {x y : ℕ} → d ≡ cell.Pair x y → Meets (PR a b) (as_cell d) (meeting.Two a x b y)
   two_pair e = rw e (Meets.twos refl refl)
 
-  pub unlike_seal : (d : Cell) → OneOf (0 ∷ 1 ∷ 2 ∷ 4 ∷ []) (declared.tag_of tags.the_type d) → Meets (SE a b) (as_cell d) meeting.Unlike
+  pub unlike_seal : (d : Cell) → ((x y : ℕ) → d ≡ cell.Seal x y → ⊥) → Meets (SE a b) (as_cell d) meeting.Unlike
   unlike_seal (cell.Atom m) h = unlike λ x. elim x [ ]
   unlike_seal cell.Variable h = unlike λ x. elim x [ ]
   unlike_seal (cell.Pair x y) h = unlike λ x. elim x [ ]
-  unlike_seal (cell.Seal x y) h = none_of h (λ z. absurd (omega arith)) (λ z. absurd (omega arith)) (λ z. absurd (omega arith)) (λ z. absurd (omega arith))
+  unlike_seal (cell.Seal x y) h = absurd (h x y refl)
   unlike_seal (cell.Apply g x) h = unlike λ x. elim x [ ]
 
   pub two_seal : {d : Cell} {x y : ℕ} → d ≡ cell.Seal x y → Meets (SE a b) (as_cell d) (meeting.Two a x b y)
   two_seal e = rw e (Meets.twos refl refl)
 
-  pub unlike_apply : (d : Cell) → OneOf (0 ∷ 1 ∷ 2 ∷ 3 ∷ []) (declared.tag_of tags.the_type d) → Meets (AP a b) (as_cell d) meeting.Unlike
+  pub unlike_apply : (d : Cell) → ((g x : ℕ) → d ≡ cell.Apply g x → ⊥) → Meets (AP a b) (as_cell d) meeting.Unlike
   unlike_apply (cell.Atom m) h = unlike λ x. elim x [ ]
   unlike_apply cell.Variable h = unlike λ x. elim x [ ]
   unlike_apply (cell.Pair x y) h = unlike λ x. elim x [ ]
   unlike_apply (cell.Seal x y) h = unlike λ x. elim x [ ]
-  unlike_apply (cell.Apply g x) h = none_of h (λ z. absurd (omega arith)) (λ z. absurd (omega arith)) (λ z. absurd (omega arith)) (λ z. absurd (omega arith))
+  unlike_apply (cell.Apply g x) h = absurd (h g x refl)
 
   pub one_apply : {d : Cell} {g x : ℕ} → d ≡ cell.Apply g x → a ≡ g → Meets (AP a b) (as_cell d) (meeting.One b x)
   one_apply {d} {g} {x} e z = rw e (Meets.ones refl (ap (λ (i : ℕ). AP i x) (sym z)))
@@ -174,9 +164,9 @@ no_variable e n = decides_no λ v. n (e ∙ v)
 -- ---- kin
 
 -- A cell that does not open by itself is no pair.
-pub not_open : {k : case.Cell} (o : Opening) → OneOf (0 ∷ 2 ∷ []) (declared.tag_of opening-tags.the_type o) → Opens k o → (l r : ℕ) → k ≡ PR l r → ⊥
+pub not_open : {k : case.Cell} (o : Opening) → ((x y : ℕ) → o ≡ opening.Open x y → ⊥) → Opens k o → (l r : ℕ) → k ≡ PR l r → ⊥
 not_open opening.Shut h (shut p s) l r e = p l r e
-not_open (opening.Open a b) h x l r e = ⊎_elim (λ z. absurd (omega arith)) (λ z. absurd (omega arith)) h
+not_open (opening.Open a b) h x l r e = absurd (h a b refl)
 not_open (opening.Locked b c) h (locked x) l r e = clash (cc)
 
 -- Kin are no pairs and no names, and are alike but for their parts.

@@ -5,7 +5,6 @@ use Rattle.model.specs.Message.{App, Two}
 use Rattle.model.specs.Case as case
 use Rattle.model.specs.Case.{AT, VA, ONE, TWO, MK, LN}
 use Rattle.model.proofs.Read.{clash}
-use Rattle.theory.specs.Cells.{Makes}
 use Rattle.theory.specs.Classes.{Alike, Likes}
 use Rattle.cells.specs.Cells.{as_cell, as_event, MadeOf, Opens, Meets, none, one, two, shut, open_pair, locked, unlike, same}
 use Rattle.cells.specs.declared.Cell.{Cell}
@@ -15,7 +14,6 @@ use Rattle.cells.specs.declared.Event.TheVariants as event
 use Rattle.cells.specs.declared.Parts.{Parts}
 use Rattle.cells.specs.declared.Opening.{Opening}
 use Rattle.cells.specs.declared.Meeting.{Meeting}
-use Rattle.cells.specs.declared.Meeting.TheVariants as meeting
 
 -- The cell taken apart.
 abbrev apart : case.Cell → Cell

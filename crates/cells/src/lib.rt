@@ -1,4 +1,7 @@
 // A cell and an event as one word each, taken apart here alone: what a word shows, a cell's parts, what it is composed of and what opens it.
+
+#![tactic(auto)]
+
 ghost use Rattle.std.specs.Prelude.{◌≡◌, ◌+◌, ◌*◌, ◌≤◌, ◌<◌, get_or};
 ghost use Rattle.model.specs.Stored.{cell_at, cell_in, table_in, word_of, event_at, event_in, aim, event_word};
 ghost use Rattle.model.specs.Case.{AT, VA, PR, SE, AP};
@@ -13,7 +16,7 @@ pub type Table = [u32; 128];
 pub type Run = [u32; 128];
 
 // A cell: a name, a variable, a pair of cells, a seal with its body and its key, a function with its argument.
-#[derive(Drop)]
+#[derive(Clone, Copy)]
 pub enum Cell {
     Atom(u16),
     Variable,
@@ -23,14 +26,14 @@ pub enum Cell {
 }
 
 // An event: a cell that he must make, or one that he learns.
-#[derive(Drop)]
+#[derive(Clone, Copy)]
 pub enum Event {
     Make(u8),
     Learn(u8),
 }
 
 // The parts of a cell.
-#[derive(Drop)]
+#[derive(Clone, Copy)]
 pub enum Parts {
     None,
     One(u8),
@@ -38,7 +41,7 @@ pub enum Parts {
 }
 
 // What a seen cell gives: nothing, both its parts, or a body, once the key is built.
-#[derive(Drop)]
+#[derive(Clone, Copy)]
 pub enum Opening {
     Shut,
     Open(u8, u8),
@@ -46,7 +49,7 @@ pub enum Opening {
 }
 
 // Two cells held against each other: of another kind, name or function; one name; or of one kind and function, with their parts in pairs. A variable is like no cell.
-#[derive(Drop)]
+#[derive(Clone, Copy)]
 pub enum Meeting {
     Unlike,
     Same,

@@ -1,4 +1,7 @@
 // The question list check: is a value list, from anyone, right for a case file?
+
+#![tactic(auto)]
+
 mod follow;
 mod form;
 mod made;

@@ -9,7 +9,7 @@ ghost use Rattle.classes.specs.Differ.{Told, PartTold};
 use cells::{Meeting, Table, cell_at};
 
 // How two cells differ: not at all, in kind, name or function, or in two parts that are to be joined.
-#[derive(Drop)]
+#[derive(Clone, Copy)]
 pub enum Diff {
     Same,
     Clash,

@@ -11,14 +11,14 @@ use super::joins::join;
 use cells::{Table, is_variable};
 
 // Whether a binding step found no clash, and whether it joined.
-#[derive(Drop)]
+#[derive(Clone, Copy)]
 struct Step {
     pub ok: bool,
     pub changed: bool,
 }
 
 // The classes after joins, whether there were any, and whether no clash was found.
-#[derive(Drop)]
+#[derive(Clone, Copy)]
 struct Bindings {
     pub ok: bool,
     pub changed: bool,

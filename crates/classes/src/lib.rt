@@ -1,4 +1,7 @@
 // Classes of cells that are to show equal messages: each cell's representative in an array of 129 bytes.
+
+#![tactic(auto)]
+
 mod alike;
 pub mod clash;
 mod closing;
@@ -21,7 +24,7 @@ pub use peel::acyclic;
 pub use twins::start;
 
 // The classes with nothing left to join, or that there is no way to join.
-#[derive(Drop)]
+#[derive(Clone, Copy)]
 pub struct Settled {
     pub ok: bool,
     pub rep: [u8; 129],

@@ -9,7 +9,7 @@ use super::alike::class_of;
 use cells::{Parts, Table, cell_at, parts_of};
 
 // Marks of cells that come round nowhere, and whether there are more than before.
-#[derive(Drop)]
+#[derive(Clone, Copy)]
 struct Peeling {
     pub changed: bool,
     pub done: [u8; 129],

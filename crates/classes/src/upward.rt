@@ -15,7 +15,7 @@ use super::joins::join;
 use cells::{Cell, Parts, Table, cell_at, parts_of};
 
 // The classes after joins, and whether there were any.
-#[derive(Drop)]
+#[derive(Clone, Copy)]
 struct Lifted {
     pub changed: bool,
     pub rep: [u8; 129],

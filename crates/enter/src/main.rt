@@ -1,4 +1,7 @@
 // Reads typed lines from standard input and writes their case file to standard output. A refusal, and what cannot be read or written, is told on standard error.
+
+#![tactic(auto)]
+
 mod refusal;
 
 ghost use Rattle.std.specs.Prelude.{◌≤◌, length};

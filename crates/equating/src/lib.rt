@@ -1,4 +1,7 @@
 // The question "equating": a list under which two cells of a file show one message, written into a lent buffer.
+
+#![tactic(auto)]
+
 ghost use Rattle.std.specs.Prelude.{◌≡◌, ◌⊎◌, ◌<◌, ◌≤◌, length, get_or};
 ghost use Rattle.model.specs.Stored.{table_in};
 ghost use Rattle.model.specs.Replies.{laid};

@@ -49,9 +49,12 @@ place_at (more trees t g p n e) c h = subst (λ l. place l (tree_at l c) ≡ c) 
 ])
 
 pub parts_of_lem : (trees : List Typed) {t u : Typed} → PartsIn trees t → PartOf t u → In trees u
-parts_of_lem trees p arg = p
-parts_of_lem trees (p, q) left = p
-parts_of_lem trees (p, q) right = q
+parts_of_lem trees p h = go h p
+  where
+    go : {t u : Typed} → PartOf t u → PartsIn trees t → In trees u
+    go arg p = p
+    go left (p, q) = p
+    go right (p, q) = q
 
 no_part_name : {n : ℕ} {u : Typed} → PartOf (name n) u → ⊥
 no_part_name p = elim p [ ]

@@ -1,5 +1,8 @@
 // What is granted at a step of the search: keys that may be equal to a cell that is seen count as built, and what may leak counts as seen. And the ways down
 // through what is not built by it.
+
+#![tactic(auto)]
+
 pub mod grants;
 mod leaks;
 pub mod line;

@@ -1,4 +1,7 @@
 // What he sees and can build, by classes of cells: two sweeps over the cells, repeated until nothing changes.
+
+#![tactic(auto)]
+
 pub mod heard;
 
 ghost use Rattle.std.specs.Prelude.{◌≡◌, ℕ, ◌≤◌, ◌<◌};

@@ -33,6 +33,7 @@ built_closed {K} g = all
 pub comp_atom : {K : Message → Type 0} {n : ℕ} → Comp K (atom n) → (n ≡ 0) ⊎ K (atom n)
 comp_atom Comp.own = inl refl
 comp_atom (Comp.base h) = inr h
+comp_atom {K = K} {n = n} (Comp.makes {a = a} {b = b} x _ _) = elim x [ ]
 
 pub comp_pair : {K : Message → Type 0} {a b : Message} → Comp K (pair a b) → K (pair a b) ⊎ (Comp K a × Comp K b)
 comp_pair (Comp.base h) = inl h

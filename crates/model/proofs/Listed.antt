@@ -67,9 +67,9 @@ module _ {A : Type 0} where
       go more true h i = (y, Memᴰ.head refl, h)
       go more false h i = let (x, m, t) = more i in (x, Memᴰ.tail m, t)
 
-  pub some_any : (test : A → Bool) {l : List A} {x : A} → Memᴰ x l → test x ≡ true → any_of test l ≡ true
+  pub some_any : (test : A → Bool) {x : A} {l : List A} → Memᴰ x l → test x ≡ true → any_of test l ≡ true
   unfolding any_of
-  some_any test {l} {x} (Memᴰ.head {x = y} {xs = r} e) h = go (test y) (cc)
+  some_any test {x} {l} (Memᴰ.head {x = y} {xs = r} e) h = go (test y) (cc)
     where
       go : (b : Bool) → b ≡ true → cond b true (any_of test r) ≡ true
       go true i = refl

@@ -61,8 +61,8 @@ searched [] = solid (λ c e. clash (cc))
 searched (c ∷ cells) = elim (var? c) [
   | inl e ↦ found 0 (record { variable = e; before = λ j h. absurd (omega arith) })
   | inr s ↦ elim (searched cells) [
-    | found i f ↦ found (suc i) (record { variable = f.variable; before = λ j. elim j [ zero ↦ λ h. s | suc k ↦ λ h. f.before k (omega arith) ] })
-    | solid n ↦ solid (λ j. elim j [ zero ↦ s | suc k ↦ n k ])
+    | found i f ↦ found (suc i) (record { variable = f.variable; before = λ j. elim j as (λ k. k < suc i → table_of (c ∷ cells) k ≡ VA → ⊥) [ zero ↦ λ h. s | suc k ↦ λ h. f.before k (omega arith) ] })
+    | solid n ↦ solid (λ j. elim j as (λ k. table_of (c ∷ cells) k ≡ VA → ⊥) [ zero ↦ s | suc k ↦ n k ])
   ]
 ]
 

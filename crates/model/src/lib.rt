@@ -1,1 +1,4 @@
 // Definitions and their laws only: see specs/ and proofs/.
+
+#![tactic(auto)]
+

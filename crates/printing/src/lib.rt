@@ -1,4 +1,7 @@
 // The reply to a run as the program prints it: lines of text in a lent buffer. 1,437 bytes are enough for each reply.
+
+#![tactic(auto)]
+
 ghost use Rattle.std.specs.Prelude.{[], ◌∷◌, ◌++◌, ◌+◌, ◌*◌, ◌/◌, ◌%◌, ◌<◌, ◌≤◌, length};
 ghost use Rattle.model.specs.Stored.{table_in};
 ghost use Rattle.printing.specs.Lines.{decimal, told, value, value_line, line_of, value_lines, refused_line, counts_line, no_line, yes_line};

@@ -1,6 +1,9 @@
 // The face for callers in C and Rust: each question, and the reading of typed text, as an exported function whose reply is one number.
 // A refusal is number * 2^32 + place; "no" and "wrong" are 0; "right" is 1; every other reply is 1 + the bytes written.
 // A place of 2^32 - 1 or more, which only a text as long as that can have, is told as 2^32 - 1.
+
+#![tactic(auto)]
+
 ghost use Rattle.std.specs.Prelude.{◌≡◌, ◌<◌, ◌^◌};
 ghost use Rattle.prismfleece.specs.Numbers.{refusal_number, told_place, EquateTold, RunTold, CheckTold, MarksTold, ReduceTold, TextTold};
 

@@ -1,4 +1,7 @@
 // The question reducing: the reduced file of a file without variables. First its plan, then its bytes.
+
+#![tactic(auto)]
+
 mod kept; // the bare cells and all that stands in them
 mod height; // heights
 mod order; // the new numbers

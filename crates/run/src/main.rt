@@ -1,4 +1,7 @@
 // Reads a case file from standard input, of any length, and prints the reply to its run. What cannot be read or written is told on standard error.
+
+#![tactic(auto)]
+
 ghost use Rattle.std.specs.Prelude.{◌≤◌, length};
 ghost use Rattle.run.specs.Answers.{Filled, Answers};
 

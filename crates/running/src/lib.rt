@@ -1,4 +1,7 @@
 // The question "run": values of the variables under which the intruder can make all that is asked of him, or that there are none.
+
+#![tactic(auto)]
+
 ghost use Rattle.std.specs.Prelude.{◌≡◌, ◌≤◌, length, take};
 ghost use Rattle.model.specs.Replies.{laid};
 ghost use Rattle.running.specs.Promise.{RunPromise};

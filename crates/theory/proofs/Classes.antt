@@ -20,6 +20,7 @@ alike_solid (ones i) e = clash (cc)
 alike_solid (twos i j) e = clash (cc)
 
 pub part_alike : {A : Type 0} {f g : ℕ → A} {k k' : Cell} {d : ℕ} → Likes f g k k' → Part k d → (d' : ℕ) × Part k' d' × (f d ≡ g d')
+part_alike atoms h = elim h [ ]
 part_alike (ones e) in_arg = (_, in_arg, e)
 part_alike (twos e i) in_left = (_, in_left, e)
 part_alike (twos e i) in_right = (_, in_right, i)

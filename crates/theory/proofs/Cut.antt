@@ -20,6 +20,7 @@ use Rattle.theory.proofs.Sweep.{opening_rep}
 
 -- Parts of two cells that are alike by their messages stand at one place.
 part_place : {m : ℕ → Message} {k k' : Cell} {x : ℕ} → Likes m m k k' → Part k x → (x' : ℕ) × Part k' x' × Place k k' x x' × (m x ≡ m x')
+part_place Likes.atoms h = elim h [ ]
 part_place (Likes.ones i) in_arg = (_, in_arg, at_arg, i)
 part_place (Likes.twos i j) in_left = (_, in_left, at_left, i)
 part_place (Likes.twos i j) in_right = (_, in_right, at_right, j)

@@ -1,4 +1,7 @@
 // The reader of typed text: lines to the bytes of their case file, or a refusal with its number and place.
+
+#![tactic(auto)]
+
 mod number; // numbers in decimal
 mod store; // the cells so far
 mod message; // messages and lists
@@ -15,7 +18,7 @@ use line::{Lines, Verdict};
 use store::Store;
 
 // The reply: a refusal with its number and place, or how many bytes the file takes.
-#[derive(Drop)]
+#[derive(Clone, Copy)]
 pub enum Entered {
     Refused(u8, usize),
     Written(usize),

@@ -10,7 +10,7 @@ use super::store::Store;
 use cells::{Event, Run, Table, event_word, is_variable};
 
 // What the lines so far say: their cells and their events.
-#[derive(Drop)]
+#[derive(Clone, Copy)]
 pub struct Lines {
     pub store: Store,
     pub run: Run,
@@ -18,21 +18,21 @@ pub struct Lines {
 }
 
 // The word of a line.
-#[derive(Drop)]
+#[derive(Clone, Copy)]
 enum Word {
     Learn,
     Make,
 }
 
 // The word at a place with the position behind it, or the first byte at fault.
-#[derive(Drop)]
+#[derive(Clone, Copy)]
 enum Spelt {
     Word(Word, usize),
     Wrong(usize),
 }
 
 // What is found of a line: the position behind it and its event, or the first byte at fault, or the first one nested too deep.
-#[derive(Drop)]
+#[derive(Clone, Copy)]
 enum LineFound {
     Line(usize, Event),
     Wrong(usize),
@@ -40,21 +40,21 @@ enum LineFound {
 }
 
 // What is found, and the cells so far.
-#[derive(Drop)]
+#[derive(Clone, Copy)]
 struct LineReading {
     pub found: LineFound,
     pub store: Store,
 }
 
 // What comes of a line: a refusal with its number and place, or the position behind it.
-#[derive(Drop)]
+#[derive(Clone, Copy)]
 pub enum Verdict {
     Refused(u8, usize),
     Next(usize),
 }
 
 // The same, and what the lines up to it say.
-#[derive(Drop)]
+#[derive(Clone, Copy)]
 pub struct Outcome {
     pub verdict: Verdict,
     pub lines: Lines,

@@ -8,7 +8,7 @@ use super::store::{Items, Store, enter, no_items, pair_up, with_item};
 use cells::{Cell, word_of};
 
 // What is found of a message or a list: the position behind it and its cell; the first byte that no line could have there; or the first one nested too deep.
-#[derive(Drop)]
+#[derive(Clone, Copy)]
 pub enum How {
     Read(usize, u8),
     Wrong(usize),
@@ -16,14 +16,14 @@ pub enum How {
 }
 
 // What is found, and the cells so far.
-#[derive(Drop)]
+#[derive(Clone, Copy)]
 pub struct Reading {
     pub how: How,
     pub store: Store,
 }
 
 // What begins at a place.
-#[derive(Drop)]
+#[derive(Clone, Copy)]
 pub enum Lead {
     Atom,
     Variable,

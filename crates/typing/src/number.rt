@@ -3,14 +3,14 @@ ghost use Rattle.std.specs.Prelude.{◌≡◌, ◌≤◌, length};
 ghost use Rattle.typing.specs.Readers.{DigitAt, NumberRead};
 
 // A number with the position behind it, or the first byte that no number could have there.
-#[derive(Drop)]
+#[derive(Clone, Copy)]
 pub enum Number {
     Read(u32, usize),
     Wrong(usize),
 }
 
 // What stands where a digit may stand.
-#[derive(Drop)]
+#[derive(Clone, Copy)]
 enum Digit {
     Is(u8),
     Not,

@@ -5,7 +5,7 @@ ghost use Rattle.typing.specs.Store.{FoundAt, added, Enters, no_items, with_item
 use cells::{Cell, Table, word_of};
 
 // The cells so far, each as the word of its cell, a variable's with its number added: equal messages have equal words. `full` says that there are more than 128; then the words say nothing.
-#[derive(Drop)]
+#[derive(Clone, Copy)]
 pub struct Store {
     pub words: Table,
     pub count: usize,
@@ -13,14 +13,14 @@ pub struct Store {
 }
 
 // The cells with a message entered, and the number of its cell.
-#[derive(Drop)]
+#[derive(Clone, Copy)]
 pub struct Put {
     pub store: Store,
     pub cell: u8,
 }
 
 // The cells of a list's messages up to the last comma. `more` says that there are more than 128.
-#[derive(Drop)]
+#[derive(Clone, Copy)]
 pub struct Items {
     pub cells: [u8; 128],
     pub count: usize,
@@ -28,7 +28,7 @@ pub struct Items {
 }
 
 // Where a word stands, if it is there.
-#[derive(Drop)]
+#[derive(Clone, Copy)]
 enum Place {
     At(usize),
     Nowhere,

@@ -1,5 +1,8 @@
 // Reads a row of cases from standard input, asks each case's question, and prints one line for each reply.
 // A case is a letter for the question, what the question asks besides, two bytes for the file's length, high byte first, and the file, or a typed text.
+
+#![tactic(auto)]
+
 mod ask;
 mod print;
 

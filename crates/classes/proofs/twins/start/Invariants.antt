@@ -1,0 +1,20 @@
+-- The loop's invariant: each entry below c is the lowest cell that is alike, and the class words below c are right.
+use native.Mathlib.Omega.{arith}
+use borrow.Author.Rules.{rules}
+use Prim.Native.Nat.{ℕ, ◌≤◌, ◌<◌, ◌-◌}
+use mathlib.Core.Path.{◌≡◌, ◌∙◌}
+use lib.ListN.{length, set, length-set}
+use Rattle.model.specs.Stored.{table_in}
+use Rattle.theory.specs.Cells.{class_at}
+use Rattle.classes.specs.Twins.{First, Worded}
+use Rattle.classes.proofs.RowLaws.{class_below}
+use Rattle.classes.proofs.TwinLaws.{firsts_more, firsts_all, firsts_start}
+use Rattle.classes.proofs.WordLaws.{worded_same}
+use Rattle.classes.proofs.twins.start.Given as goal
+
+abbrev pub invariant-loop-c : goal.invariant-loop-c
+invariant-loop-c l =
+    (length l.rep ≡ 129) × (l.c ≤ 129) × ((i : ℕ) → i < l.c → First (table_in l.table) (class_at l.rep) i) × Worded l.n (table_in l.table) (class_at l.rep) l.c l.words
+
+abbrev pub decreases-loop-c : goal.decreases-loop-c
+decreases-loop-c l = 129 - l.c

@@ -1,0 +1,15 @@
+-- The mark, then the fields.
+use mathlib.Core.Path.{ap, ◌∙◌}
+use Prim.Native.Nat.{◌+◌}
+use native.Mathlib.Omega.{arith}
+use lib.ListN.{get_or, set, length-set}
+use Rattle.typing.proofs.FileLaws.{set_four}
+use Rattle.typing.proofs.file.put_fields.Goals as goal
+
+pub bounds-out-at-2 : goal.bounds-out-at-2
+bounds-out-at-2 c = simp length-set (omega arith)
+
+pub returns : goal.returns
+returns c =
+    ap (λ l. set (set l (c.args.at + 2) c.args.a) (c.args.at + 3) c.args.b) c.put_mark.ensures ∙ set_four c.args.out.now c.args.at
+    (get_or c.args.text.now 0 0) (get_or c.args.text.now 1 0) c.args.a c.args.b

@@ -1,0 +1,32 @@
+-- The lines before `at` say entries, which are kept.
+use Prim.Native.Nat.{◌-◌}
+use native.Mathlib.Omega.{arith}
+use lib.ListN.{length}
+use Rattle.grammar.specs.Text.{refused, said, refusal}
+use Rattle.typing.proofs.TakeLaws.{TextAt, text_start, text_refused, text_behind, text_next, text_end}
+use Rattle.typing.proofs.read_text.Goals as goal
+
+pub loop-at-init : goal.loop-at-init
+loop-at-init c = text_start c.args.text.now _ c.no_lines-lines.ensures
+
+pub returns-in-Refused : goal.returns-in-Refused
+returns-in-Refused c =
+    record
+    { outcome = refused _ _; told = text_refused c.args.text.now c.loop-at.lines c.loop-at.at c.loop-at.invariant c.read_line-read.result c.read_line-read.ensures _ _ c.in-Refused.is; replied = refusal _ _ }
+
+pub loop-at-smaller : goal.loop-at-smaller
+loop-at-smaller c =
+    omega
+    (arith, c.loop-at-test.true, text_behind c.args.text.now c.loop-at.lines c.loop-at.at c.loop-at.invariant c.read_line-read.result c.read_line-read.ensures _ c.in-Next.is)
+
+pub loop-at-preserved : goal.loop-at-preserved
+loop-at-preserved c = text_next c.args.text.now c.loop-at.lines c.loop-at.at c.loop-at.invariant c.read_line-read.result c.read_line-read.ensures _ c.in-Next.is
+
+pub write_file-requires : goal.write_file-requires
+write_file-requires c κs =
+    (omega (arith, c.loop-at.invariant.kept.cells.counts, c.loop-at.invariant.kept.cells.room), omega (arith, c.loop-at.invariant.kept.counts, c.loop-at.invariant.kept.few))
+
+pub returns : goal.returns
+returns c =
+    record
+    { outcome = said c.loop-at.invariant.entries; told = text_end c.args.text.now c.loop-at.lines c.loop-at.at c.loop-at.invariant c.loop-at-test.false; replied = c.write_file.ensures c.loop-at.invariant.entries c.loop-at.invariant.kept }

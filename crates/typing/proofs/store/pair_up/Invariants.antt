@@ -1,0 +1,12 @@
+-- The pairs of the items from i on are entered.
+use mathlib.Core.Path.{◌≡◌, subst}
+use Prim.Native.Nat.{◌+◌, ◌-◌, ◌≤◌}
+use native.Mathlib.Omega.{arith}
+use Rattle.typing.proofs.StoreLaws.{PairedFrom, paired_start, paired_step, paired_all}
+use Rattle.typing.proofs.store.pair_up.Given as goal
+
+abbrev pub invariant-loop-i : goal.invariant-loop-i
+invariant-loop-i l = (l.i ≤ l.items.count) × PairedFrom l.initial.s l.items l.last l.i l.s l.behind
+
+abbrev pub decreases-loop-i : goal.decreases-loop-i
+decreases-loop-i l = l.i
