@@ -14,9 +14,18 @@ use Rattle.classes.specs.Differ.{Facing, args, lefts, rights, Told, PartTold}
 
 -- What makes the cells alike gives the same at facing parts.
 pub facing_same : {A : Type 0} {f : ℕ → A} {k k' : Cell} {x y : ℕ} → Facing k k' x y → Alike f k k' → f x ≡ f y
-facing_same args (ones e) = e
-facing_same lefts (twos e i) = e
-facing_same rights (twos e i) = i
+facing_same {f = f} h i = go h i refl refl
+  where
+    go : {k k' l l' : Cell} {x y : ℕ} → Facing k k' x y → Alike f l l' → k ≡ l → k' ≡ l' → f x ≡ f y
+    go args atoms p q = cc
+    go args (ones e) p q = cc
+    go args (twos e i) p q = cc
+    go lefts atoms p q = cc
+    go lefts (ones e) p q = cc
+    go lefts (twos e i) p q = cc
+    go rights atoms p q = cc
+    go rights (ones e) p q = cc
+    go rights (twos e i) p q = cc
 
 -- Cells that are alike by anything are of one kind, name and function.
 pub alike_any : {A : Type 0} {f : ℕ → A} {k k' : Cell} → Alike f k k' → Alike {A = Unit} (λ d. tt) k k'

@@ -42,6 +42,8 @@ alike_key (twos e i) = rw (e, i)
 -- ---- cells with parts
 
 pub no_parts : (k : case.Cell) → parts.None ≡ parts_of k → Parted k → ⊥
+no_parts (AT _) e h = elim h [ ]
+no_parts VA e h = elim h [ ]
 no_parts (ONE g a) e one = clash (cc)
 no_parts (TWO h l r) e two = clash (cc)
 
@@ -52,5 +54,6 @@ some_parts (ONE g a) p e ne = one
 some_parts (TWO h l r) p e ne = two
 
 pub alike_parted : {A : Type 0} {f : ℕ → A} {k k' : case.Cell} → Alike f k k' → Parted k → Parted k'
+alike_parted atoms h = elim h [ ]
 alike_parted (ones e) one = one
 alike_parted (twos e i) two = two

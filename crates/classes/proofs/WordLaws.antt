@@ -15,7 +15,7 @@ use Rattle.model.proofs.Finite.{eq?}
 use Rattle.model.proofs.Read.{var?}
 use Rattle.model.proofs.Rows.{Fits, word_cell, cell_word, table_at, table_past}
 use Rattle.theory.specs.Classes.{Likes, Alike, atoms, ones, twos}
-use Rattle.theory.proofs.Classes.{alike_sym}
+use Rattle.theory.proofs.Classes.{alike_sym, alike_solid}
 use Rattle.cells.specs.Cells.{as_cell}
 use Rattle.cells.specs.declared.Cell.{Cell}
 use Rattle.cells.specs.declared.Cell.TheVariants as cell
@@ -87,7 +87,7 @@ module _ (cls : ℕ → ℕ) where
 
   classes_alike : (k l : case.Cell) → by_classes k ≡ by_classes l → (k ≡ VA → ⊥) → Alike cls k l
   classes_alike k l e s = elim (var? l) [
-    | inl v ↦ elim (subst (Likes cls (λ d. d) k) (e ∙ ap by_classes v) (likes_classes k s)) [ ]
+    | inl v ↦ absurd (alike_solid (subst (Likes cls (λ d. d) k) e (likes_classes k s)) (ap by_classes v))
     | inr z ↦ likes_both (subst (Likes cls (λ d. d) k) e (likes_classes k s)) (likes_classes l z)
   ]
 

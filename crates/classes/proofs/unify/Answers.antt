@@ -17,7 +17,7 @@ returns-then-not-s c =
     }
 
 pub acyclic-ok-requires : goal.acyclic-ok-requires
-acyclic-ok-requires c κs = record { table_words = c.requires.table_words; kept = c.settle-s.ensures.kept (not-false _ c.if-not-s.false) }
+acyclic-ok-requires c = record { table_words = c.requires.table_words; kept = c.settle-s.ensures.kept (not-false _ c.if-not-s.false) }
 
 pub returns : goal.returns
 returns c =

@@ -14,7 +14,7 @@ returns-in_default c =
     record { no = no-at; yes = λ _. moved_none c.args.rep.now c.requires.kept; shut = λ e _. shut_at e }
 
 pub join-joined-requires : goal.join-joined-requires
-join-joined-requires c κs =
+join-joined-requires c =
     let asks : Asks c.args.n (table_in c.args.table.now) c.args.rep.now c.args.c (Parts c.in-Parts.x c.in-Parts.y) = rw c.in-Parts.is at c.differ-d.ensures in record { table_words = c.requires.table_words; kept = c.requires.kept; a_lt_n = (asks.0, asks.1) }
 
 pub returns : goal.returns

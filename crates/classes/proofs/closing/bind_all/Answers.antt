@@ -2,12 +2,9 @@
 use native.Mathlib.Omega.{arith}
 use borrow.Author.Rules.{rules}
 use borrow.Author.Tests.{not-true, not-false}
-use Prim.Native.Nat.{◌≤◌, ◌-◌, ◌+◌}
 use mathlib.Core.Path.{◌≡◌}
 use mathlib.Core.Bool.{true, false, true≢false, false≢true}
-use Rattle.model.specs.Stored.{table_in}
-use Rattle.classes.specs.Kept.{class_count}
-use Rattle.classes.proofs.SettleLaws.{Sweeping, sweeping_none, sweeping_more, sweeping_stay, sweeping_no}
+use Rattle.classes.proofs.SettleLaws.{sweeping_none, sweeping_more, sweeping_stay, sweeping_no}
 use Rattle.classes.proofs.closing.bind_all.Goals as goal
 
 pub overflow_add-c : goal.overflow_add-c
@@ -20,7 +17,7 @@ pub overflow_sub-c : goal.overflow_sub-c
 overflow_sub-c c = omega arith
 
 pub bind-b-requires : goal.bind-b-requires
-bind-b-requires c κs = record { table_words = c.requires.table_words; kept = c.loop-c.invariant.0.moved.holds }
+bind-b-requires c = record { table_words = c.requires.table_words; kept = c.loop-c.invariant.0.moved.holds }
 
 pub returns-then-not-b : goal.returns-then-not-b
 returns-then-not-b c =

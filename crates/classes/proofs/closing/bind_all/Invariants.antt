@@ -1,13 +1,8 @@
 -- The loop's invariant: the classes have moved by joins alone, and if by none, the cells from c on ask for nothing. A step joins, or goes one cell down.
-use native.Mathlib.Omega.{arith}
-use borrow.Author.Rules.{rules}
-use borrow.Author.Tests.{not-true, not-false}
-use Prim.Native.Nat.{◌≤◌, ◌-◌, ◌+◌}
-use mathlib.Core.Path.{◌≡◌}
-use mathlib.Core.Bool.{true, false, true≢false, false≢true}
+use Prim.Native.Nat.{◌≤◌, ◌+◌}
 use Rattle.model.specs.Stored.{table_in}
 use Rattle.classes.specs.Kept.{class_count}
-use Rattle.classes.proofs.SettleLaws.{Sweeping, sweeping_none, sweeping_more, sweeping_stay, sweeping_no}
+use Rattle.classes.proofs.SettleLaws.{Sweeping}
 use Rattle.classes.proofs.closing.bind_all.Given as goal
 
 abbrev pub invariant-loop-c : goal.invariant-loop-c

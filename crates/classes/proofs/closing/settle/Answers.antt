@@ -7,15 +7,14 @@ use Prim.Native.Nat.{ℕ}
 use Rattle.model.specs.Stored.{table_in}
 use Rattle.theory.specs.Cells.{class_at}
 use Rattle.theory.specs.Classes.{Closed}
-use Rattle.classes.specs.Kept.{Kept, class_count}
-use Rattle.classes.proofs.SettleLaws.{Stage, stage_none, stage_more, shut_closed}
+use Rattle.classes.proofs.SettleLaws.{stage_none, stage_more, shut_closed}
 use Rattle.classes.proofs.closing.settle.Goals as goal
 
 pub loop-s-init : goal.loop-s-init
 loop-s-init c = stage_none c.requires.kept
 
 pub bind_all-s-requires : goal.bind_all-s-requires
-bind_all-s-requires c κs = record { table_words = c.requires.table_words; kept = c.loop-s.invariant.holds }
+bind_all-s-requires c = record { table_words = c.requires.table_words; kept = c.loop-s.invariant.holds }
 
 pub returns-then-not-s : goal.returns-then-not-s
 returns-then-not-s c =

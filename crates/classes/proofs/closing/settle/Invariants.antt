@@ -1,14 +1,7 @@
 -- Each sweep that changes something lowers the number of classes; one that changes nothing leaves closed classes.
-use borrow.Author.Tests.{not-true, not-false}
-use mathlib.Core.Path.{◌≡◌, sym, subst}
-use mathlib.Core.Bool.{true, false, true≢false, false≢true}
-use mathlib.Core.List.{List}
-use Prim.Native.Nat.{ℕ}
 use Rattle.model.specs.Stored.{table_in}
-use Rattle.theory.specs.Cells.{class_at}
-use Rattle.theory.specs.Classes.{Closed}
 use Rattle.classes.specs.Kept.{Kept, class_count}
-use Rattle.classes.proofs.SettleLaws.{Stage, stage_none, stage_more, shut_closed}
+use Rattle.classes.proofs.SettleLaws.{Stage}
 use Rattle.classes.proofs.closing.settle.Given as goal
 
 abbrev pub invariant-loop-s : goal.invariant-loop-s

@@ -1,11 +1,8 @@
 -- The loop's invariant: the entries below i are relabelled, the others are as they were.
-use borrow.Author.Rules.{rules}
-use native.Mathlib.Omega.{arith}
 use Prim.Native.Nat.{◌-◌}
 use mathlib.Core.Path.{◌≡◌}
-use mathlib.Core.Logic.{⊎_elim}
 use lib.ListN.{length}
-use Rattle.classes.proofs.JoinLaws.{Relabelling, relabel_none, relabel_take, relabel_skip, relabel_whole}
+use Rattle.classes.proofs.JoinLaws.{Relabelling}
 use Rattle.classes.proofs.joins.relabel.Given as goal
 
 abbrev pub invariant-loop-i : goal.invariant-loop-i

@@ -2,8 +2,6 @@
 use borrow.Author.Tests.{not-true, not-false}
 use mathlib.Core.Path.{◌≡◌}
 use mathlib.Core.Bool.{false}
-use Rattle.model.specs.Stored.{table_in}
-use Rattle.classes.specs.Peel.{class_table, Peeled, undone}
 use Rattle.classes.proofs.PeelLaws.{peeled_none, peeled_finite, peeled_round, peeled_endless}
 use Rattle.classes.proofs.peel.acyclic.Goals as goal
 
@@ -11,10 +9,10 @@ pub loop-rep-init : goal.loop-rep-init
 loop-rep-init c = peeled_none _
 
 pub peel-p-requires : goal.peel-p-requires
-peel-p-requires c κs = record { table_words = c.requires.table_words; peeled = c.loop-rep.invariant }
+peel-p-requires c = record { table_words = c.requires.table_words; peeled = c.loop-rep.invariant }
 
 pub all_done-requires : goal.all_done-requires
-all_done-requires c κs = c.requires.table_words.few
+all_done-requires c = c.requires.table_words.few
 
 pub returns-then-not-p : goal.returns-then-not-p
 returns-then-not-p c =

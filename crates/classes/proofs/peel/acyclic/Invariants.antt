@@ -1,10 +1,6 @@
 -- Each sweep that changes something marks a cell more; when none does, ranks of all cells, or a cell that is not marked, give the answer.
-use borrow.Author.Tests.{not-true, not-false}
-use mathlib.Core.Path.{◌≡◌}
-use mathlib.Core.Bool.{false}
 use Rattle.model.specs.Stored.{table_in}
 use Rattle.classes.specs.Peel.{class_table, Peeled, undone}
-use Rattle.classes.proofs.PeelLaws.{peeled_none, peeled_finite, peeled_round, peeled_endless}
 use Rattle.classes.proofs.peel.acyclic.Given as goal
 
 abbrev pub invariant-loop-rep : goal.invariant-loop-rep

@@ -2,7 +2,6 @@
 use native.Mathlib.Omega.{arith}
 use borrow.Author.Rules.{rules}
 use borrow.Author.Count.{below_more}
-use Prim.Native.Nat.{ℕ, ◌≤◌, ◌<◌, ◌-◌, ◌+◌}
 use mathlib.Core.Bool.{true≢false, false≢true}
 use Rattle.theory.specs.Cells.{On}
 use Rattle.classes.proofs.peel.all_done.Goals as goal

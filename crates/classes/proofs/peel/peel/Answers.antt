@@ -1,13 +1,13 @@
 -- The loop's invariant: marked cells have ranks, and if nothing changed, each cell below c whose parts are marked is marked.
 use native.Mathlib.Omega.{arith}
 use borrow.Author.Rules.{rules}
-use Prim.Native.Nat.{ℕ, ◌≤◌, ◌<◌, ◌-◌, ◌+◌}
+use Prim.Native.Nat.{ℕ, ◌<◌}
 use mathlib.Core.Path.{subst}
-use mathlib.Core.Logic.{⊎_elim}
 use Rattle.model.specs.Stored.{table_in}
 use Rattle.classes.specs.Peel.{class_table, Fresh, Peels}
 use Rattle.classes.proofs.PeelLaws.{peels_none, peels_mark, peels_skip}
 use Rattle.classes.proofs.peel.peel.Goals as goal
+use Rattle.classes.proofs.peel.peel.Goals.{then-fresh, else-fresh}
 
 pub loop-c-init : goal.loop-c-init
 loop-c-init c = (peels_none (class_table (table_in c.args.table.now) c.args.rep.now) c.args.start c.requires.peeled, search rules)
@@ -16,7 +16,7 @@ pub overflow_cast-c : goal.overflow_cast-c
 overflow_cast-c c = omega (arith, c.requires.table_words.few)
 
 pub fresh-requires : goal.fresh-requires
-fresh-requires c κs = c.loop-c.invariant.0.peeled.long
+fresh-requires c = c.loop-c.invariant.0.peeled.long
 
 pub bounds-done-c : goal.bounds-done-c
 bounds-done-c c = omega (arith, c.requires.table_words.few)
@@ -31,10 +31,10 @@ pub loop-c-preserved : goal.loop-c-preserved
 loop-c-preserved c =
     let S = class_table (table_in c.args.table.now) c.args.rep.now in
     let small : c.loop-c.c < 129 = omega (arith, c.requires.table_words.few) in (
-      ⊎_elim
-          (λ w. rw (w.1, w.2) (peels_mark S c.args.start c.loop-c.c c.loop-c.done c.loop-c.changed c.loop-c.invariant.0 small (subst (Fresh S c.loop-c.done c.loop-c.c) w.0.taken c.fresh.ensures)))
-          (λ w. rw (w.1, w.2) (peels_skip S c.args.start c.loop-c.c c.loop-c.done c.loop-c.changed c.loop-c.invariant.0 small (subst (Fresh S c.loop-c.done c.loop-c.c) w.0.left c.fresh.ensures)))
-          c.if-fresh.branch,
+      elim c.if-fresh.branch [
+        | then-fresh w ↦ rw (w.done-is, w.changed-is) (peels_mark S c.args.start c.loop-c.c c.loop-c.done c.loop-c.changed c.loop-c.invariant.0 small (subst (Fresh S c.loop-c.done c.loop-c.c) w.if-fresh.true c.fresh.ensures))
+        | else-fresh w ↦ rw (w.done-is, w.changed-is) (peels_skip S c.args.start c.loop-c.c c.loop-c.done c.loop-c.changed c.loop-c.invariant.0 small (subst (Fresh S c.loop-c.done c.loop-c.c) w.if-fresh.false c.fresh.ensures))
+      ],
       omega arith,
     )
 

@@ -1,12 +1,7 @@
 -- The loop's invariant: marked cells have ranks, and if nothing changed, each cell below c whose parts are marked is marked.
-use native.Mathlib.Omega.{arith}
-use borrow.Author.Rules.{rules}
-use Prim.Native.Nat.{ℕ, ◌≤◌, ◌<◌, ◌-◌, ◌+◌}
-use mathlib.Core.Path.{subst}
-use mathlib.Core.Logic.{⊎_elim}
+use Prim.Native.Nat.{◌≤◌, ◌-◌, ◌+◌}
 use Rattle.model.specs.Stored.{table_in}
-use Rattle.classes.specs.Peel.{class_table, Fresh, Peels}
-use Rattle.classes.proofs.PeelLaws.{peels_none, peels_mark, peels_skip}
+use Rattle.classes.specs.Peel.{class_table, Peels}
 use Rattle.classes.proofs.peel.peel.Given as goal
 
 abbrev pub invariant-loop-c : goal.invariant-loop-c

@@ -1,7 +1,7 @@
 -- One law for each number of parts of the cell that stands for the class.
 use mathlib.Core.Path.{sym, ◌∙◌}
 use mathlib.Core.Bool.{true≢false, false≢true}
-use borrow.Author.Tests.{eqb-true, eqb-false, not-true, not-false}
+use borrow.Author.Tests.{eqb-true, eqb-false}
 use Rattle.model.specs.Stored.{table_in}
 use Rattle.classes.specs.Peel.{class_table}
 use Rattle.classes.proofs.PeelLaws.{parts_read, done_none, done_one, done_two}

@@ -5,7 +5,7 @@ use borrow.Author.Count.{below_more}
 use mathlib.Core.Path.{◌≡◌, ap}
 use mathlib.Core.Logic.{inl, inr}
 use mathlib.Core.List.{List}
-use Prim.Native.Nat.{ℕ, ◌≤◌, ◌<◌, ◌-◌}
+use Prim.Native.Nat.{ℕ, ◌≤◌, ◌<◌}
 use lib.ListN.{get_or}
 use Rattle.model.proofs.Finite.{eq?}
 use Rattle.classes.proofs.twins.first_same.Goals as goal

@@ -1,13 +1,7 @@
 -- The loop's invariant: no place below d has the word, and c is not below d. So the loop ends at c at the latest.
-use native.Mathlib.Omega.{arith}
-use borrow.Author.Rules.{rules}
-use borrow.Author.Count.{below_more}
-use mathlib.Core.Path.{◌≡◌, ap}
-use mathlib.Core.Logic.{inl, inr}
-use mathlib.Core.List.{List}
+use mathlib.Core.Path.{◌≡◌}
 use Prim.Native.Nat.{ℕ, ◌≤◌, ◌<◌, ◌-◌}
 use lib.ListN.{get_or}
-use Rattle.model.proofs.Finite.{eq?}
 use Rattle.classes.proofs.twins.first_same.Given as goal
 
 abbrev pub invariant-loop-d : goal.invariant-loop-d

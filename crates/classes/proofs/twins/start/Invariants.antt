@@ -1,15 +1,10 @@
 -- The loop's invariant: each entry below c is the lowest cell that is alike, and the class words below c are right.
-use native.Mathlib.Omega.{arith}
-use borrow.Author.Rules.{rules}
 use Prim.Native.Nat.{ℕ, ◌≤◌, ◌<◌, ◌-◌}
-use mathlib.Core.Path.{◌≡◌, ◌∙◌}
-use lib.ListN.{length, set, length-set}
+use mathlib.Core.Path.{◌≡◌}
+use lib.ListN.{length}
 use Rattle.model.specs.Stored.{table_in}
 use Rattle.theory.specs.Cells.{class_at}
 use Rattle.classes.specs.Twins.{First, Worded}
-use Rattle.classes.proofs.RowLaws.{class_below}
-use Rattle.classes.proofs.TwinLaws.{firsts_more, firsts_all, firsts_start}
-use Rattle.classes.proofs.WordLaws.{worded_same}
 use Rattle.classes.proofs.twins.start.Given as goal
 
 abbrev pub invariant-loop-c : goal.invariant-loop-c

@@ -1,13 +1,11 @@
 -- The loop's invariant: best is c or a fellow, and if the links are right, no cell that they have led past is a lower one.
-use native.Mathlib.Omega.{arith}
-use borrow.Author.Rules.{rules}
 use mathlib.Core.Path.{◌≡◌}
-use Prim.Native.Nat.{◌≤◌, ◌<◌, ◌-◌}
+use Prim.Native.Nat.{◌≤◌, ◌<◌}
 use Rattle.model.specs.Stored.{table_in}
 use Rattle.theory.specs.Cells.{class_at}
 use Rattle.theory.specs.Classes.{Alike}
 use Rattle.classes.specs.Links.{Leads}
-use Rattle.classes.proofs.LinkLaws.{Walk, walk_start, walk_take, walk_skip}
+use Rattle.classes.proofs.LinkLaws.{Walk}
 use Rattle.classes.proofs.upward.fellow.Given as goal
 
 abbrev pub invariant-loop-at : goal.invariant-loop-at

@@ -4,7 +4,6 @@ use mathlib.Core.Bool.{true≢false, false≢true}
 use Rattle.model.specs.Stored.{table_in}
 use Rattle.theory.specs.Cells.{class_at}
 use Rattle.classes.proofs.DifferLaws.{told_apart}
-use Rattle.classes.proofs.Tags.{tag_apart}
 use Rattle.classes.proofs.upward.is_fellow.Goals as goal
 
 pub returns-then-class_of-d : goal.returns-then-class_of-d
@@ -15,7 +14,7 @@ returns-in_default c =
     let T = table_in c.args.table.now in
     record {
       yes = λ e. absurd (false≢true e);
-      no = λ _ _. told_apart (class_at c.args.rep.now) (T c.args.c) (T c.args.d) c.compare.result c.compare.ensures (tag_apart _ c.in_default.not-Same);
+      no = λ _ _. told_apart (class_at c.args.rep.now) (T c.args.c) (T c.args.d) c.compare.result c.compare.ensures c.in_default.not-Same;
     }
 
 pub returns : goal.returns

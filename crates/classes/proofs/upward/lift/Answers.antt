@@ -1,12 +1,11 @@
 -- The loop's invariant: the classes have moved by joins of cells that are alike; if by none, no cell below c that stands for its class has a fellow, and the links
 -- are right.
 use native.Mathlib.Omega.{arith}
-use Prim.Native.Nat.{◌≤◌, ◌-◌}
 use mathlib.Core.Path.{◌≡◌, subst}
 use Rattle.model.specs.Stored.{table_in}
 use Rattle.classes.specs.Upward.{Lifts}
 use Rattle.classes.proofs.LinkLaws.{down_none}
-use Rattle.classes.proofs.UpwardLaws.{Lifting, lifting_none, lifting_more, lifting_stay}
+use Rattle.classes.proofs.UpwardLaws.{lifting_none, lifting_more, lifting_stay}
 use Rattle.classes.proofs.upward.lift.Goals as goal
 
 pub loop-c-init : goal.loop-c-init
@@ -16,7 +15,7 @@ pub overflow_cast-c : goal.overflow_cast-c
 overflow_cast-c c = omega (arith, c.requires.table_words.few)
 
 pub meet-joined-requires : goal.meet-joined-requires
-meet-joined-requires c κs =
+meet-joined-requires c =
     record { table_words = c.requires.table_words; solved = c.loop-c.invariant.0.lifts.moved.holds; downward = c.loop-c.invariant.0.down; c_lt_n = omega arith }
 
 pub overflow_add-c : goal.overflow_add-c

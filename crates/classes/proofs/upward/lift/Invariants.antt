@@ -1,12 +1,8 @@
 -- The loop's invariant: the classes have moved by joins of cells that are alike; if by none, no cell below c that stands for its class has a fellow, and the links
 -- are right.
-use native.Mathlib.Omega.{arith}
 use Prim.Native.Nat.{◌≤◌, ◌-◌}
-use mathlib.Core.Path.{◌≡◌, subst}
 use Rattle.model.specs.Stored.{table_in}
-use Rattle.classes.specs.Upward.{Lifts}
-use Rattle.classes.proofs.LinkLaws.{down_none}
-use Rattle.classes.proofs.UpwardLaws.{Lifting, lifting_none, lifting_more, lifting_stay}
+use Rattle.classes.proofs.UpwardLaws.{Lifting}
 use Rattle.classes.proofs.upward.lift.Given as goal
 
 abbrev pub invariant-loop-c : goal.invariant-loop-c

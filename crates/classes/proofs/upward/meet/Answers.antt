@@ -1,7 +1,6 @@
 -- A cell that has no parts or does not stand for its class is left; one that has no fellow is linked; else the two are joined.
 use native.Mathlib.Omega.{arith}
 use mathlib.Core.Path.{sym, ◌∙◌, ap, subst}
-use borrow.Author.Tests.{not-true, not-false}
 use Rattle.theory.specs.Cells.{class_at}
 use Rattle.classes.specs.Links.{key_of, Parted}
 use Rattle.classes.proofs.UpwardLaws.{meets_plain, meets_under, meets_link, meets_join}
@@ -14,7 +13,7 @@ pub returns-then-class_of-i : goal.returns-then-class_of-i
 returns-then-class_of-i c = meets_under c.requires.solved c.requires.downward (λ e. c.if-class_of-i.true (c.class_of.ensures ∙ e))
 
 pub fellow-t-requires : goal.fellow-t-requires
-fellow-t-requires c κs =
+fellow-t-requires c =
     record { table_words = c.requires.table_words; by_index = c.requires.downward.lower; top_le_c = (c.requires.downward.below c.key_of-h.result, c.requires.c_lt_n) }
 
 pub returns-then-t-c : goal.returns-then-t-c
@@ -25,7 +24,7 @@ returns-then-t-c c =
     (omega (arith, c.requires.table_words.few, c.requires.c_lt_n)) c.if-t-c.true
 
 pub join-joined-requires : goal.join-joined-requires
-join-joined-requires c κs =
+join-joined-requires c =
     record { table_words = c.requires.table_words; kept = c.requires.solved.kept; a_lt_n = (omega (arith, c.fellow-t.ensures.low, c.requires.c_lt_n), c.requires.c_lt_n) }
 
 pub returns : goal.returns

@@ -7,8 +7,7 @@ use Prim.Native.Nat.{ℕ}
 use Rattle.model.specs.Stored.{table_in}
 use Rattle.theory.specs.Cells.{class_at}
 use Rattle.theory.specs.Classes.{Alike}
-use Rattle.classes.specs.Kept.{class_count, Solved}
-use Rattle.classes.proofs.SettleLaws.{Stage, stage_none, stage_more}
+use Rattle.classes.proofs.SettleLaws.{stage_none, stage_more}
 use Rattle.classes.proofs.UpwardLaws.{met_up}
 use Rattle.classes.proofs.upward.raise.Goals as goal
 
@@ -16,7 +15,7 @@ pub loop-rep-init : goal.loop-rep-init
 loop-rep-init c = stage_none c.requires.solved
 
 pub lift-l-requires : goal.lift-l-requires
-lift-l-requires c κs = record { table_words = c.requires.table_words; solved = c.loop-rep.invariant.holds }
+lift-l-requires c = record { table_words = c.requires.table_words; solved = c.loop-rep.invariant.holds }
 
 pub returns-then-not-l : goal.returns-then-not-l
 returns-then-not-l c =

@@ -1,15 +1,7 @@
 -- Each sweep that changes something lowers the number of classes; after one that changes nothing, cells that are alike are of one class.
-use borrow.Author.Tests.{not-true, not-false}
-use mathlib.Core.Path.{◌≡◌, sym, subst}
-use mathlib.Core.Bool.{false}
-use mathlib.Core.List.{List}
-use Prim.Native.Nat.{ℕ}
 use Rattle.model.specs.Stored.{table_in}
-use Rattle.theory.specs.Cells.{class_at}
-use Rattle.theory.specs.Classes.{Alike}
 use Rattle.classes.specs.Kept.{class_count, Solved}
-use Rattle.classes.proofs.SettleLaws.{Stage, stage_none, stage_more}
-use Rattle.classes.proofs.UpwardLaws.{met_up}
+use Rattle.classes.proofs.SettleLaws.{Stage}
 use Rattle.classes.proofs.upward.raise.Given as goal
 
 abbrev pub invariant-loop-rep : goal.invariant-loop-rep
