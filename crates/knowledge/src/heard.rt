@@ -8,7 +8,7 @@ ghost use Rattle.knowledge.specs.Heard.{LearntAll, HeardOpened};
 use cells::{Event, Run, Table, event_at};
 
 // The class array of a table, and the marks, 0 or 1, of the classes that can be built.
-#[derive(Drop)]
+#[derive(Clone, Copy)]
 pub struct Knowledge {
     pub rep: [u8; 129],
     pub built: [u8; 129],

@@ -17,42 +17,42 @@ use cells::{Cell, Opening, Parts, Table, cell_within, made_of, opens, parts_of};
 use classes::{class_of, class_within};
 
 // The marks, 0 or 1, of the cells that are seen and of those that can be built.
-#[derive(Drop)]
+#[derive(Clone, Copy)]
 pub struct Marks {
     pub seen: [u8; 129],
     pub built: [u8; 129],
 }
 
 // The classes of a seen cell's parts, where they are newly seen.
-#[derive(Drop)]
+#[derive(Clone, Copy)]
 enum Shown {
     Parts(usize, usize),
     Nothing,
 }
 
 // The cells that stand for the classes of a cell's parts.
-#[derive(Drop)]
+#[derive(Clone, Copy)]
 pub struct Ends {
     pub left: usize,
     pub right: usize,
 }
 
 // The marks of built cells after a sweep upwards, and whether it added any.
-#[derive(Drop)]
+#[derive(Clone, Copy)]
 struct Risen {
     pub built: [u8; 129],
     pub changed: bool,
 }
 
 // The marks of seen cells after a sweep downwards, and whether it added any.
-#[derive(Drop)]
+#[derive(Clone, Copy)]
 struct Fallen {
     pub seen: [u8; 129],
     pub changed: bool,
 }
 
 // The marks after both, and whether they added any.
-#[derive(Drop)]
+#[derive(Clone, Copy)]
 pub struct Turn {
     pub seen: [u8; 129],
     pub built: [u8; 129],
