@@ -11,7 +11,7 @@ use cells::Table;
 use classes::class_of;
 
 // A row of marks, and whether it has more than before.
-#[derive(Drop)]
+#[derive(Clone, Copy)]
 pub struct Swept {
     pub marks: [u8; 129],
     pub changed: bool,

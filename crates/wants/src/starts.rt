@@ -14,7 +14,7 @@ use classes::class_of;
 use knowledge::{Ends, cell, part_classes};
 
 // A cell to be marked, or none.
-#[derive(Drop)]
+#[derive(Clone, Copy)]
 pub enum Pick {
     Mark(usize),
     Nothing,

@@ -1,0 +1,16 @@
+-- The invariant: the row has the marks to start from, and the keys asked for by the cells below c.
+use mathlib.Core.Logic.{⊎_elim}
+use mathlib.Core.Path.{subst}
+use Prim.Native.Nat.{ℕ, ◌≤◌, ◌-◌}
+use native.Mathlib.Omega.{arith}
+use borrow.Author.Rules.{rules}
+use Rattle.model.specs.Stored.{table_in}
+use Rattle.wants.proofs.StartLaws.{keyed_none, keyed_mark, keyed_skip, key_low}
+use Rattle.wants.specs.Starts.{Keyed}
+use Rattle.wants.proofs.starts.keys.Given as goal
+
+abbrev pub invariant-loop-c : goal.invariant-loop-c
+invariant-loop-c l = (Keyed (table_in l.table) l.rep l.seen l.built l.initial.m l.m l.c) × (l.c ≤ l.n)
+
+abbrev pub decreases-loop-c : goal.decreases-loop-c
+decreases-loop-c l = l.n - l.c
