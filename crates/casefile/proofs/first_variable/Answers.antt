@@ -1,6 +1,5 @@
 -- The loop's invariant: no cell before the counter is a variable, so each of their records has four bytes.
 use mathlib.Core.Path.{◌≡◌, refl, subst}
-use Prim.Native.Nat.{ℕ, ◌≤◌, ◌<◌, ◌-◌}
 use native.Mathlib.Omega.{arith}
 use native.Mathlib.Decide.{ℕ_discrete}
 use Rattle.model.specs.Case.{VA}

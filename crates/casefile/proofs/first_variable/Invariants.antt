@@ -1,11 +1,8 @@
 -- The loop's invariant: no cell before the counter is a variable, so each of their records has four bytes.
-use mathlib.Core.Path.{◌≡◌, refl, subst}
+use mathlib.Core.Path.{◌≡◌}
 use Prim.Native.Nat.{ℕ, ◌≤◌, ◌<◌, ◌-◌}
-use native.Mathlib.Omega.{arith}
-use native.Mathlib.Decide.{ℕ_discrete}
 use Rattle.model.specs.Case.{VA}
 use Rattle.model.specs.Stored.{table_in}
-use borrow.Author.Rules.{rules}
 use Rattle.casefile.proofs.first_variable.Given as goal
 
 abbrev pub invariant-loop-i : goal.invariant-loop-i

@@ -6,25 +6,19 @@ use Rattle.casefile.specs.Case.{case_of}
 use Rattle.casefile.proofs.CaseLaws.{part_length, table_lower, table_few, reply_refused, reply_accepted}
 use Rattle.casefile.proofs.read_case.Goals as goal
 
--- LEFT: no goal is called slice-bounds-read-events-start now
--- let r = c.before.before.before in
---     let file = r.before.before.args.file.now in
---     let at = r.read-cells.result.at in
---     let t = r.read-cells.result.table in
---     let cut = subst (λ s. cells_read file s at t) c.enum_told.given.1 r.read-cells.ensures in
---     cut.place
-
 pub slice_bounds-read_events-count : goal.slice_bounds-read_events-count
 slice_bounds-read_events-count c =
     let cut = subst (λ s. cells_read c.args.file.now s c.read_cells-read.result.at c.read_cells-read.result.table) c.in-Events.is c.read_cells-read.ensures in
     cut.place
 
 pub read_events-end-requires : goal.read_events-end-requires
-read_events-end-requires c κs =
-    let cut = subst (λ s. cells_read c.args.file.now s c.read_cells-read.result.at c.read_cells-read.result.table) c.in-Events.is c.read_cells-read.ensures in let e = part_length c.args.file.now c.read_cells-read.result.at c.read_cells-read.result.table cut in record { lower = table_lower c.args.file.now c.read_cells-read.result.at c.read_cells-read.result.table cut; count_bound = table_few c.args.file.now c.read_cells-read.result.at c.read_cells-read.result.table cut; rest_bound = omega arith }
+read_events-end-requires c =
+    let cut = subst (λ s. cells_read c.args.file.now s c.read_cells-read.result.at c.read_cells-read.result.table) c.in-Events.is c.read_cells-read.ensures in
+    let e = part_length c.args.file.now c.read_cells-read.result.at c.read_cells-read.result.table cut in
+    record { lower = table_lower c.args.file.now c.read_cells-read.result.at c.read_cells-read.result.table cut; count_bound = table_few c.args.file.now c.read_cells-read.result.at c.read_cells-read.result.table cut; rest_bound = omega arith }
 
 pub first_variable-requires : goal.first_variable-requires
-first_variable-requires c κs =
+first_variable-requires c =
     let cut = subst (λ s. cells_read c.args.file.now s c.read_cells-read.result.at c.read_cells-read.result.table) c.in-Events.is c.read_cells-read.ensures in
     table_few c.args.file.now c.read_cells-read.result.at c.read_cells-read.result.table cut
 

@@ -1,6 +1,5 @@
 -- The loop's invariant: no variable before the counter is held and not made.
 use mathlib.Core.Path.{sym, subst}
-use Prim.Native.Nat.{ℕ, ◌≤◌, ◌<◌, ◌-◌}
 use native.Mathlib.Omega.{arith}
 use native.Mathlib.Decide.{ℕ_discrete}
 use lib.ListN.{get_or}
@@ -35,7 +34,7 @@ pub loop-v-preserved : goal.loop-v-preserved
 loop-v-preserved c = (
   omega arith,
   λ u h. elim (ℕ_discrete u c.loop-v.v) [
-    | yes e ↦ subst (λ u. LooseAt (table_in c.args.table.now u) (get_or c.args.t2 u 0) (get_or c.args.t3 u 0) → ⊥) (sym e) (c.loose_at.ensures.no c.if-loose_at.false)
+    | yes e ↦ subst (λ u. LooseAt (table_in c.args.table.now u) (get_or c.args.held u 0) (get_or c.args.made u 0) → ⊥) (sym e) (c.loose_at.ensures.no c.if-loose_at.false)
     | no ne ↦ c.loop-v.invariant.1 u (omega arith)
   ],
 )

@@ -5,7 +5,7 @@ use Rattle.casefile.specs.Events.{AimFits}
 use Rattle.casefile.proofs.rest.made_after.Goals as goal
 
 pub mark_within-requires : goal.mark_within-requires
-mark_within-requires c κs = record { lower = c.requires.lower; c_bound = subst (λ e. AimFits (as_event e)) c.in-Make.is c.requires.aim_fits }
+mark_within-requires c = record { lower = c.requires.lower; c_bound = subst (λ e. AimFits (as_event e)) c.in-Make.is c.requires.aim_fits }
 
 pub returns-in-Make : goal.returns-in-Make
 returns-in-Make c = rw c.in-Make.is c.mark_within.ensures

@@ -23,7 +23,7 @@ pub bounds-m-i-in-loop-i : goal.bounds-m-i-in-loop-i
 bounds-m-i-in-loop-i c = omega arith
 
 pub mark_parts-m-requires : goal.mark_parts-m-requires
-mark_parts-m-requires c κs =
+mark_parts-m-requires c =
     λ d q.
     let k = c.requires.lower (c.loop-i.i - 1) d (subst (λ k. Part k d) c.cell_at.ensures q) in
     omega arith

@@ -1,13 +1,6 @@
 -- The loop's invariant: of the marked cells from the counter up to c the parts are marked; parts are lower, so at 0 all that stands in c is marked.
-use mathlib.Core.Path.{◌≡◌, subst}
-use Prim.Native.Nat.{suc, ◌-◌}
-use native.Mathlib.Omega.{arith}
-use lib.ListN.{set, length-set}
-use Rattle.model.specs.Case.{Part}
 use Rattle.model.specs.Stored.{table_in}
-use Rattle.casefile.specs.Events.{PartsMarked}
-use Rattle.casefile.proofs.WithinLaws.{Descent, descent_start, descent_marked, descent_passed, within_marked}
-use borrow.Author.Rules.{rules}
+use Rattle.casefile.proofs.WithinLaws.{Descent}
 use Rattle.casefile.proofs.rest.mark_within.Given as goal
 
 abbrev pub invariant-loop-i : goal.invariant-loop-i

@@ -1,19 +1,15 @@
 -- The loop's invariant: the words are of the events of the records before `at`, `made` marks what their MKs hold, and reading on from there gives what the whole file is read as.
-use mathlib.Core.Path.{◌≡◌, refl, sym, subst}
 use mathlib.Core.List.{List}
-use Prim.Native.Nat.{ℕ, ◌+◌, ◌-◌, ◌≤◌}
-use native.Mathlib.Omega.{arith}
-use lib.ListN.{length, drop, set, length-drop}
+use Prim.Native.Nat.{ℕ, ◌-◌, ◌≤◌}
+use lib.ListN.{length}
 use Rattle.model.specs.Case.{Cell}
-use Rattle.casefile.specs.declared.Words.{Words}
-use Rattle.casefile.specs.declared.rest.EventStep.{EventStep}
-use Rattle.casefile.specs.Events.{event_says, Context}
-use Rattle.casefile.proofs.EventLoop.{EventsSoFar, events_start, events_refused, events_end, events_loose, events_next}
+use Rattle.casefile.specs.Events.{Context}
+use Rattle.casefile.proofs.EventLoop.{EventsSoFar}
 use Rattle.casefile.proofs.rest.read_events.Given as goal
 
 abbrev pub invariant-loop-number : goal.invariant-loop-number
 invariant-loop-number l =
-    (l.at ≤ length l.rest) × (l.n ≤ 128) × ((file : List ℕ) (cells : List Cell) → Context l.rest l.base l.t file cells → EventsSoFar l.base file cells l.at (run l.words l.n) l.made)
+    (l.at ≤ length l.rest) × (l.n ≤ 128) × ((file : List ℕ) (cells : List Cell) → Context l.rest l.base l.t file cells → EventsSoFar l.base file cells l.at (record { words = l.words; count = l.n }) l.made)
 
 abbrev pub decreases-loop-number : goal.decreases-loop-number
 decreases-loop-number l = 128 - l.n

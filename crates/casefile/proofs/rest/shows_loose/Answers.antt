@@ -6,7 +6,7 @@ use Rattle.casefile.proofs.WithinLaws.{make_loose, learn_loose}
 use Rattle.casefile.proofs.rest.shows_loose.Goals as goal
 
 pub mark_within-held-requires : goal.mark_within-held-requires
-mark_within-held-requires c κs = record { lower = c.requires.lower; c_bound = subst (λ e. AimFits (as_event e)) c.in-Learn.is c.requires.aim_fits }
+mark_within-held-requires c = record { lower = c.requires.lower; c_bound = subst (λ e. AimFits (as_event e)) c.in-Learn.is c.requires.aim_fits }
 
 pub returns-in-Make : goal.returns-in-Make
 returns-in-Make c = rw c.in-Make.is make_loose
