@@ -3,4 +3,4 @@ use Rattle.wants.proofs.SetLaws.{held_row}
 use Rattle.wants.proofs.sets.holds.Goals as goal
 
 pub returns : goal.returns
-returns c = held_row c.requires.table_words c.Free-Seen.ensures c.raised.ensures
+returns c = held_row c.requires.table_words c.free_seen-m.ensures c.raised.ensures

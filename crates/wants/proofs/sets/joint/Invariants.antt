@@ -1,10 +1,5 @@
 -- The invariant: the row has the marks of a, and those of b below c.
-use mathlib.Core.Logic.{⊎_elim}
-use mathlib.Core.Path.{subst}
-use Prim.Native.Nat.{ℕ, ◌≤◌, ◌-◌}
-use native.Mathlib.Omega.{arith}
-use borrow.Author.Rules.{rules}
-use Rattle.wants.proofs.StartLaws.{joint_none, joint_mark, joint_skip}
+use Prim.Native.Nat.{◌≤◌, ◌-◌}
 use Rattle.wants.specs.Starts.{Joint}
 use Rattle.wants.proofs.sets.joint.Given as goal
 

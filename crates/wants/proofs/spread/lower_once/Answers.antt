@@ -1,13 +1,13 @@
 -- The invariant: unless something changed, no cell from c on has a part left to mark. A turn goes in two halves, one for each part.
-use mathlib.Core.Logic.{⊎_elim}
 use mathlib.Core.Path.{subst}
-use Prim.Native.Nat.{ℕ, ◌≤◌, ◌-◌}
+use Prim.Native.Nat.{ℕ, ◌-◌}
 use native.Mathlib.Omega.{arith}
 use borrow.Author.Rules.{rules}
 use Rattle.model.specs.Stored.{table_in}
 use Rattle.wants.proofs.SpreadLaws.{lowering_none, lowering_pass, Half, half_mark, half_skip, lowering_mark, lowering_skip}
 use Rattle.wants.specs.Spread.{Lowering}
 use Rattle.wants.proofs.spread.lower_once.Goals as goal
+use Rattle.wants.proofs.spread.lower_once.Goals.{else-reaches, then-reaches}
 
 pub loop-c-init : goal.loop-c-init
 loop-c-init c = (
@@ -52,12 +52,12 @@ pub loop-c-preserved-then-reaches-2 : goal.loop-c-preserved-then-reaches-2
 loop-c-preserved-then-reaches-2 c =
     let d : ℕ = c.loop-c.c - 1 in
     let half : Half (table_in c.args.table.now) c.requires.class_row c.args.only.now c.args.flag c.args.start c.if-reaches.m c.if-reaches.changed d =
-    ⊎_elim
-    (λ x. rw (x.1, x.2) (half_mark (table_in c.args.table.now) c.requires.class_row c.args.only.now c.args.flag c.args.start d c.loop-c.c
-    (omega arith) c.ends-e.result.left c.ends-e.result.right c.ends-e.ensures c.loop-c.invariant.0 (c.reaches.ensures.yes x.0.taken)))
-    (λ x. rw (x.1, x.2) (half_skip (table_in c.args.table.now) c.requires.class_row c.args.only.now c.args.flag c.args.start d c.loop-c.c
-    (omega arith) c.ends-e.result.left c.ends-e.result.right c.ends-e.ensures c.loop-c.invariant.0 (c.reaches.ensures.no x.0.left)))
-    c.if-reaches.branch in (
+    elim c.if-reaches.branch [
+      | then-reaches w ↦ rw (w.m-is, w.changed-is) (half_mark (table_in c.args.table.now) c.requires.class_row c.args.only.now c.args.flag c.args.start d c.loop-c.c
+          (omega arith) c.ends-e.result.left c.ends-e.result.right c.ends-e.ensures c.loop-c.invariant.0 (c.reaches.ensures.yes w.if-reaches.true))
+      | else-reaches w ↦ rw (w.m-is, w.changed-is) (half_skip (table_in c.args.table.now) c.requires.class_row c.args.only.now c.args.flag c.args.start d c.loop-c.c
+          (omega arith) c.ends-e.result.left c.ends-e.result.right c.ends-e.ensures c.loop-c.invariant.0 (c.reaches.ensures.no w.if-reaches.false))
+    ] in (
       lowering_mark (table_in c.args.table.now) c.requires.class_row c.args.only.now c.args.flag c.args.start d c.ends-e.result.left c.ends-e.result.right
           c.ends-e.ensures half (c.reaches-in-loop-c.ensures.yes c.if-reaches-2.true),
       omega arith,
@@ -70,12 +70,12 @@ pub loop-c-preserved : goal.loop-c-preserved
 loop-c-preserved c =
     let d : ℕ = c.loop-c.c - 1 in
     let half : Half (table_in c.args.table.now) c.requires.class_row c.args.only.now c.args.flag c.args.start c.if-reaches.m c.if-reaches.changed d =
-    ⊎_elim
-    (λ x. rw (x.1, x.2) (half_mark (table_in c.args.table.now) c.requires.class_row c.args.only.now c.args.flag c.args.start d c.loop-c.c
-    (omega arith) c.ends-e.result.left c.ends-e.result.right c.ends-e.ensures c.loop-c.invariant.0 (c.reaches.ensures.yes x.0.taken)))
-    (λ x. rw (x.1, x.2) (half_skip (table_in c.args.table.now) c.requires.class_row c.args.only.now c.args.flag c.args.start d c.loop-c.c
-    (omega arith) c.ends-e.result.left c.ends-e.result.right c.ends-e.ensures c.loop-c.invariant.0 (c.reaches.ensures.no x.0.left)))
-    c.if-reaches.branch in (
+    elim c.if-reaches.branch [
+      | then-reaches w ↦ rw (w.m-is, w.changed-is) (half_mark (table_in c.args.table.now) c.requires.class_row c.args.only.now c.args.flag c.args.start d c.loop-c.c
+          (omega arith) c.ends-e.result.left c.ends-e.result.right c.ends-e.ensures c.loop-c.invariant.0 (c.reaches.ensures.yes w.if-reaches.true))
+      | else-reaches w ↦ rw (w.m-is, w.changed-is) (half_skip (table_in c.args.table.now) c.requires.class_row c.args.only.now c.args.flag c.args.start d c.loop-c.c
+          (omega arith) c.ends-e.result.left c.ends-e.result.right c.ends-e.ensures c.loop-c.invariant.0 (c.reaches.ensures.no w.if-reaches.false))
+    ] in (
       lowering_skip (table_in c.args.table.now) c.requires.class_row c.args.only.now c.args.flag c.args.start d c.ends-e.result.left c.ends-e.result.right
           c.ends-e.ensures half (c.reaches-in-loop-c.ensures.no c.if-reaches-2.false),
       omega arith,

@@ -4,11 +4,9 @@ use mathlib.Core.Bool.{Bool}
 use borrow.Author.Tests.{not-true, not-false}
 use borrow.Author.Rules.{rules}
 use Rattle.model.specs.Stored.{table_in}
-use Rattle.knowledge.specs.Sweeps.{missing}
 use Rattle.wants.proofs.SpreadLaws.{grown_wider, lowered_still}
 use Rattle.wants.proofs.Rowing.{wider_none}
 use Rattle.wants.specs.Spread.{Lowering}
-use Rattle.wants.specs.Starts.{Wider}
 use Rattle.wants.proofs.spread.lowered.Goals as goal
 
 pub loop-m-init : goal.loop-m-init

@@ -1,11 +1,6 @@
 -- The invariant: unless something changed, no cell below c is left to mark.
-use mathlib.Core.Logic.{⊎_elim}
-use mathlib.Core.Path.{subst}
-use Prim.Native.Nat.{ℕ, ◌≤◌, ◌-◌}
-use native.Mathlib.Omega.{arith}
-use borrow.Author.Rules.{rules}
+use Prim.Native.Nat.{◌≤◌, ◌-◌}
 use Rattle.model.specs.Stored.{table_in}
-use Rattle.wants.proofs.SpreadLaws.{raising_none, raising_mark, raising_skip}
 use Rattle.wants.specs.Spread.{Raising}
 use Rattle.wants.proofs.spread.raise_once.Given as goal
 

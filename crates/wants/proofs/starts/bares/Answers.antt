@@ -1,12 +1,12 @@
 -- The invariant: the row marks exactly the bare cells below c.
-use mathlib.Core.Logic.{⊎_elim}
 use mathlib.Core.Path.{subst}
-use Prim.Native.Nat.{ℕ, ◌≤◌, ◌-◌}
+use Prim.Native.Nat.{ℕ, ◌≤◌}
 use native.Mathlib.Omega.{arith}
 use Rattle.model.specs.Stored.{table_in}
 use Rattle.wants.proofs.StartLaws.{bare_none, bare_mark, bare_skip}
 use Rattle.wants.specs.Starts.{BareTo}
 use Rattle.wants.proofs.starts.bares.Goals as goal
+use Rattle.wants.proofs.starts.bares.Goals.{else-is_bare, then-is_bare}
 
 pub loop-c-init : goal.loop-c-init
 loop-c-init c = (bare_none, omega arith)
@@ -23,10 +23,10 @@ loop-c-smaller c = omega arith
 pub loop-c-preserved : goal.loop-c-preserved
 loop-c-preserved c =
     let h : c.loop-c.c ≤ 128 = omega (arith, c.requires.table_words.few) in (
-      ⊎_elim
-          (λ x. rw x.1 (bare_mark h c.loop-c.invariant.0 (c.is_bare.ensures.yes x.0.taken)))
-          (λ x. rw x.1 (bare_skip c.loop-c.invariant.0 (c.is_bare.ensures.no x.0.left)))
-          c.if-is_bare.branch,
+      elim c.if-is_bare.branch [
+        | then-is_bare w ↦ rw w.m-is (bare_mark h c.loop-c.invariant.0 (c.is_bare.ensures.yes w.if-is_bare.true))
+        | else-is_bare w ↦ rw w.m-is (bare_skip c.loop-c.invariant.0 (c.is_bare.ensures.no w.if-is_bare.false))
+      ],
       omega arith,
     )
 

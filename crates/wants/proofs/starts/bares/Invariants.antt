@@ -1,10 +1,6 @@
 -- The invariant: the row marks exactly the bare cells below c.
-use mathlib.Core.Logic.{⊎_elim}
-use mathlib.Core.Path.{subst}
-use Prim.Native.Nat.{ℕ, ◌≤◌, ◌-◌}
-use native.Mathlib.Omega.{arith}
+use Prim.Native.Nat.{◌≤◌, ◌-◌}
 use Rattle.model.specs.Stored.{table_in}
-use Rattle.wants.proofs.StartLaws.{bare_none, bare_mark, bare_skip}
 use Rattle.wants.specs.Starts.{BareTo}
 use Rattle.wants.proofs.starts.bares.Given as goal
 

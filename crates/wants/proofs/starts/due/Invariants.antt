@@ -1,12 +1,5 @@
 -- The invariant: the row has the classes of the cells to be made before q that are marked in hold.
-use mathlib.Core.Logic.{⊎_elim}
-use mathlib.Core.Path.{sym, subst}
-use Prim.Native.Nat.{ℕ, ◌≤◌, ◌-◌}
-use native.Mathlib.Omega.{arith}
-use borrow.Author.Rules.{rules}
-use Rattle.model.specs.Stored.{aim}
-use Rattle.knowledge.proofs.Grow.{none_marked}
-use Rattle.wants.proofs.StartLaws.{due_none, due_low, due_mark, due_skip}
+use Prim.Native.Nat.{◌≤◌, ◌-◌}
 use Rattle.wants.specs.Starts.{Due}
 use Rattle.wants.proofs.starts.due.Given as goal
 

@@ -1,7 +1,6 @@
 -- The invariant: the row has the variables below c that are seen. What is seen stands for its class.
-use mathlib.Core.Logic.{⊎_elim}
 use mathlib.Core.Path.{subst}
-use Prim.Native.Nat.{ℕ, ◌≤◌, ◌-◌}
+use Prim.Native.Nat.{ℕ, ◌≤◌}
 use native.Mathlib.Omega.{arith}
 use borrow.Author.Rules.{rules}
 use Rattle.model.specs.Stored.{table_in}
@@ -9,6 +8,7 @@ use Rattle.knowledge.proofs.Grow.{none_marked}
 use Rattle.wants.proofs.StartLaws.{free_none, free_mark, free_skip}
 use Rattle.wants.specs.Starts.{FreeSeen}
 use Rattle.wants.proofs.starts.free_seen.Goals as goal
+use Rattle.wants.proofs.starts.free_seen.Goals.{else-free_at, then-free_at}
 
 pub loop-c-init : goal.loop-c-init
 loop-c-init c = (free_none (table_in c.args.table.now) c.args.rep.now c.args.seen.now (search rules) none_marked, omega arith)
@@ -28,11 +28,11 @@ loop-c-smaller c = omega arith
 pub loop-c-preserved : goal.loop-c-preserved
 loop-c-preserved c =
     let h : c.loop-c.c ≤ 128 = omega (arith, c.requires.n_bound) in (
-      ⊎_elim
-          (λ x. rw x.1 (free_mark (table_in c.args.table.now) c.args.rep.now c.args.seen.now c.loop-c.c h c.loop-c.invariant.0
-          (c.requires.mark_row.stand c.loop-c.c (c.free_at.ensures.yes x.0.taken).0)))
-          (λ x. rw x.1 (free_skip (table_in c.args.table.now) c.args.rep.now c.args.seen.now c.loop-c.c h c.loop-c.invariant.0 (c.free_at.ensures.no x.0.left)))
-          c.if-free_at.branch,
+      elim c.if-free_at.branch [
+        | then-free_at w ↦ rw w.m-is (free_mark (table_in c.args.table.now) c.args.rep.now c.args.seen.now c.loop-c.c h c.loop-c.invariant.0
+            (c.requires.mark_row.stand c.loop-c.c (c.free_at.ensures.yes w.if-free_at.true).0))
+        | else-free_at w ↦ rw w.m-is (free_skip (table_in c.args.table.now) c.args.rep.now c.args.seen.now c.loop-c.c h c.loop-c.invariant.0 (c.free_at.ensures.no w.if-free_at.false))
+      ],
       omega arith,
     )
 

@@ -1,12 +1,6 @@
 -- The invariant: the row has the variables below c that are seen. What is seen stands for its class.
-use mathlib.Core.Logic.{⊎_elim}
-use mathlib.Core.Path.{subst}
-use Prim.Native.Nat.{ℕ, ◌≤◌, ◌-◌}
-use native.Mathlib.Omega.{arith}
-use borrow.Author.Rules.{rules}
+use Prim.Native.Nat.{◌≤◌, ◌-◌}
 use Rattle.model.specs.Stored.{table_in}
-use Rattle.knowledge.proofs.Grow.{none_marked}
-use Rattle.wants.proofs.StartLaws.{free_none, free_mark, free_skip}
 use Rattle.wants.specs.Starts.{FreeSeen}
 use Rattle.wants.proofs.starts.free_seen.Given as goal
 

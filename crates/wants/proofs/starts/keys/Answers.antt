@@ -1,13 +1,13 @@
 -- The invariant: the row has the marks to start from, and the keys asked for by the cells below c.
-use mathlib.Core.Logic.{⊎_elim}
 use mathlib.Core.Path.{subst}
-use Prim.Native.Nat.{ℕ, ◌≤◌, ◌-◌}
+use Prim.Native.Nat.{ℕ}
 use native.Mathlib.Omega.{arith}
 use borrow.Author.Rules.{rules}
 use Rattle.model.specs.Stored.{table_in}
 use Rattle.wants.proofs.StartLaws.{keyed_none, keyed_mark, keyed_skip, key_low}
 use Rattle.wants.specs.Starts.{Keyed}
 use Rattle.wants.proofs.starts.keys.Goals as goal
+use Rattle.wants.proofs.starts.keys.Goals.{in-Mark, in_default}
 
 pub loop-c-init : goal.loop-c-init
 loop-c-init c = (
@@ -31,12 +31,12 @@ loop-c-smaller c = omega arith
 
 pub loop-c-preserved : goal.loop-c-preserved
 loop-c-preserved c = (
-  ⊎_elim
-      (λ x. rw x.3 (keyed_mark (table_in c.args.table.now) c.requires.class_row c.args.seen.now c.args.built.now c.args.start c.loop-c.c
-      c.key_at-p.ensures c.loop-c.invariant.0 x.1.given.1))
-      (λ x. rw x.2 (keyed_skip (table_in c.args.table.now) c.requires.class_row c.args.seen.now c.args.built.now c.args.start c.loop-c.c
-      c.key_at-p.ensures c.loop-c.invariant.0 x.1.given.1))
-      c.match-p.branch,
+  elim c.match-p.branch [
+    | in-Mark w ↦ rw w.m-is (keyed_mark (table_in c.args.table.now) c.requires.class_row c.args.seen.now c.args.built.now c.args.start c.loop-c.c
+        c.key_at-p.ensures c.loop-c.invariant.0 w.in-Mark.is)
+    | in_default w ↦ rw w.m-is (keyed_skip (table_in c.args.table.now) c.requires.class_row c.args.seen.now c.args.built.now c.args.start c.loop-c.c
+        c.key_at-p.ensures c.loop-c.invariant.0 w.in_default.is)
+  ],
   omega arith,
 )
 

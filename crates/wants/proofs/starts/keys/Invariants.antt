@@ -1,11 +1,6 @@
 -- The invariant: the row has the marks to start from, and the keys asked for by the cells below c.
-use mathlib.Core.Logic.{⊎_elim}
-use mathlib.Core.Path.{subst}
-use Prim.Native.Nat.{ℕ, ◌≤◌, ◌-◌}
-use native.Mathlib.Omega.{arith}
-use borrow.Author.Rules.{rules}
+use Prim.Native.Nat.{◌≤◌, ◌-◌}
 use Rattle.model.specs.Stored.{table_in}
-use Rattle.wants.proofs.StartLaws.{keyed_none, keyed_mark, keyed_skip, key_low}
 use Rattle.wants.specs.Starts.{Keyed}
 use Rattle.wants.proofs.starts.keys.Given as goal
 
