@@ -27,7 +27,7 @@ fn bright<'a>(held: &'a [u8; 129], seen: &'a [u8; 129], x: usize, y: usize) -> b
 }
 
 // The cells c and d, and the classes of the parts of c.
-#[derive(Drop)]
+#[derive(Clone, Copy)]
 struct Against {
     pub c: usize,
     pub ends: Ends,

@@ -65,7 +65,7 @@ fn live_row<'a>(
 }
 
 // A cell, and how many levels down from it are still looked at.
-#[derive(Drop)]
+#[derive(Clone, Copy)]
 struct Depth {
     pub cell: usize,
     pub levels: usize,
@@ -175,7 +175,7 @@ fn way<'a>(
 }
 
 // A way down, and how many pairs it leaves to try.
-#[derive(Drop)]
+#[derive(Clone, Copy)]
 pub struct Lined {
     pub pairs: u8,
     pub cells: [u8; 129],
