@@ -10,7 +10,7 @@ use classes::class_of;
 use granting::Place;
 
 // A pair to be tried, or none.
-#[derive(Drop)]
+#[derive(Clone, Copy)]
 pub enum Next {
     Pair(usize, usize),
     Nothing,

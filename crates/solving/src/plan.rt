@@ -20,7 +20,7 @@ use wants::bares;
 use wants::sets::wanted;
 
 // Wanted and bare cells, of which pairs are to be tried. How many pairs are live is a guide only.
-#[derive(Drop)]
+#[derive(Clone, Copy)]
 struct Trial {
     pub pairs: u8,
     pub want: [u8; 129],
@@ -28,21 +28,21 @@ struct Trial {
 }
 
 // The marks of what is seen and built, and what is granted.
-#[derive(Drop)]
+#[derive(Clone, Copy)]
 struct Known {
     pub marks: Marks,
     pub grant: Grant,
 }
 
 // What is tried, and what is granted with the costs that were found.
-#[derive(Drop)]
+#[derive(Clone, Copy)]
 struct Chance {
     pub grant: Grant,
     pub trial: Trial,
 }
 
 // The plan of a step: if ready, nothing is to be tried. The position, the load and the number of live pairs are guides only.
-#[derive(Drop)]
+#[derive(Clone, Copy)]
 pub struct Choice {
     pub ready: bool,
     pub at: usize,
@@ -54,7 +54,7 @@ pub struct Choice {
 
 // What is known before a position: the marks of what is seen and built, what is granted, and the best plan so far.
 // Fresh: nothing was learnt since the marks were found; else only those of what is seen are to be started from. Dead: a guide, how many dead ends the position had.
-#[derive(Drop)]
+#[derive(Clone, Copy)]
 struct Stage {
     pub fresh: bool,
     pub dead: u16,

@@ -18,7 +18,7 @@ use classes::{Settled, start, unify};
 use granting::Place;
 
 // The classes that the next pair gives, if there is one, and the cells where the next pairs begin.
-#[derive(Drop)]
+#[derive(Clone, Copy)]
 struct Child {
     pub ok: bool,
     pub c: usize,
@@ -27,14 +27,14 @@ struct Child {
 }
 
 // Yes with classes, or no.
-#[derive(Drop)]
+#[derive(Clone, Copy)]
 struct Outcome {
     pub yes: bool,
     pub rep: [u8; 129],
 }
 
 // Yes with a value list, or no.
-#[derive(Drop)]
+#[derive(Clone, Copy)]
 pub struct Solution {
     pub yes: bool,
     pub list: [u8; 128],
