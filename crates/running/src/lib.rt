@@ -9,7 +9,7 @@ ghost use Rattle.running.specs.Promise.{RunPromise};
 use casefile::events::Verdict;
 
 // The reply: a refusal with its number and place, "no", or the number of bytes written.
-#[derive(Drop)]
+#[derive(Clone, Copy)]
 pub enum Solved {
     Refused(u8, usize),
     No,
