@@ -1,0 +1,18 @@
+-- 255 is his own name, any other entry a cell.
+use mathlib.Core.Path.{◌≡◌}
+use Prim.Native.Nat.{◌+◌, ◌≤◌}
+use native.Mathlib.Omega.{arith}
+use Rattle.printing.proofs.PutLaws.{put_join}
+use Rattle.printing.proofs.LineLaws.{put_own, put_cell}
+use Rattle.printing.proofs.put_entry.Goals as goal
+
+pub returns-then-entry-eq255 : goal.returns-then-entry-eq255
+returns-then-entry-eq255 c =
+    let e : c.put_text.result ≡ c.args.at + 7 = c.put_text.ensures.end in
+    (put_own c.args.entry c.if-entry-eq255.true c.put_text.ensures, omega arith)
+
+pub returns : goal.returns
+returns c =
+    let j : c.put_told-named.result ≤ c.args.at + 6 = c.put_told-named.ensures.1 in
+    let k : c.put_text-2.result ≡ c.put_told-named.result + 1 = c.put_text-2.ensures.end in
+    (put_cell c.args.entry c.if-entry-eq255.false (put_join c.put_told-named.ensures.0 c.put_text-2.ensures), omega arith)

@@ -1,0 +1,6 @@
+-- The second line behind the first.
+use Rattle.printing.proofs.PutLaws.{put_join}
+use Rattle.printing.proofs.put_no.Goals as goal
+
+pub returns : goal.returns
+returns c = put_join c.put_counts-counted.ensures.0 c.put_text.ensures
