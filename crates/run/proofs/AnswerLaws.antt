@@ -1,5 +1,5 @@
 -- What a read adds stays within the buffer; and the reply to the first bytes is the reply to the whole input.
-use mathlib.Core.Path.{◌≡◌, sym, ◌∙◌, ap, subst}
+use mathlib.Core.Path.{◌≡◌, ap, subst}
 use mathlib.Core.List.{List}
 use Prim.Native.Nat.{ℕ, ◌+◌, ◌-◌, ◌≤◌}
 use native.Mathlib.Omega.{arith}
