@@ -11,7 +11,7 @@ use casefile::Found;
 use casefile::events::Verdict;
 
 // The reply: a refusal with its number and place, or how many marks are written.
-#[derive(Drop)]
+#[derive(Clone, Copy)]
 pub enum Marked {
     Refused(u8, usize),
     Marks(usize),

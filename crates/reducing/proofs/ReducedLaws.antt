@@ -179,7 +179,7 @@ module _ (n : ℕ) (words rep built bare keep : List ℕ) (g : Given n words rep
         λ h. (let (lt, o) = marked_only p.learnt p.cells c h in (lt, subst (Rest K) (sym (μ-in c lt)) (bare_rest (get_or old c 0) (sym (L.marks_are c lt) ∙ o)))),
         λ (lt, r). (
             let o = O.kept c lt in
-            marked_all p.learnt p.cells c lt (L.marks_are c lt ∙ rest_bare (get_or old c 0) (ks.below (get_or old c 0) o) (keeps_whole.own_val (get_or old c 0) o) (subst (Rest K) (μ-in c lt) r))),
+            marked_all p.learnt p.cells c lt (L.marks_are c lt ∙ rest_bare (get_or old c 0) (ks.below (get_or old c 0) o) (keeps_whole.own (get_or old c 0) o) (subst (Rest K) (μ-in c lt) r))),
       )
 
       pub plan_reduces : ReducedFile K (planned p)

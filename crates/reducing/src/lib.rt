@@ -21,14 +21,14 @@ use casefile::events::Verdict;
 use cells::{Run, Table};
 
 // The reply: a refusal with its number and place, or how many bytes the reduced file takes.
-#[derive(Drop)]
+#[derive(Clone, Copy)]
 pub enum Reduced {
     Refused(u8, usize),
     Reduced(usize),
 }
 
 // The reduced file before it is written: its table, marks on the cells that it learns, and how many cells and events it has.
-#[derive(Drop)]
+#[derive(Clone, Copy)]
 struct Plan {
     pub table: Table,
     pub learnt: [u8; 128],

@@ -1,0 +1,36 @@
+-- A store for each part of the cell.
+use mathlib.Core.Path.{◌≡◌, sym, ◌∙◌, ap, subst}
+use lib.ListN.{length, set}
+use Rattle.theory.specs.Cells.{class_at}
+use Rattle.cells.specs.Cells.{as_cell}
+use Rattle.reducing.specs.Bare.{Adds}
+use Rattle.reducing.proofs.PartLaws.{low_one, low_two}
+use Rattle.reducing.proofs.KeepLaws.{adds_none, adds_one, adds_two}
+use borrow.Author.Rules.{rules}
+use Rattle.reducing.proofs.kept.with_parts.Goals as goal
+
+pub with_class-requires : goal.with_class-requires
+with_class-requires c = (c.requires.0, low_one c.requires.1 (sym c.parts_of-parts.ensures ∙ c.in-One.is))
+
+pub with_class-requires-in-Two : goal.with_class-requires-in-Two
+with_class-requires-in-Two c = (c.requires.0, (low_two c.requires.1 (sym c.parts_of-parts.ensures ∙ c.in-Two.is)).1)
+
+pub with_class-requires-in-Two-2 : goal.with_class-requires-in-Two-2
+with_class-requires-in-Two-2 c = (c.requires.0, (low_two c.requires.1 (sym c.parts_of-parts.ensures ∙ c.in-Two.is)).0)
+
+pub returns-in-None : goal.returns-in-None
+returns-in-None c =
+    let size : length c.args.marks ≡ 129 = search rules in
+    adds_none c.args.rep.now c.args.marks size (as_cell c.args.k) (sym c.parts_of-parts.ensures ∙ c.in-None.is)
+
+pub returns-in-One : goal.returns-in-One
+returns-in-One c =
+    let size : length c.args.marks ≡ 129 = search rules in
+    subst (Adds c.args.rep.now c.args.marks (as_cell c.args.k)) (sym c.with_class.ensures)
+    (adds_one c.args.rep.now c.args.marks size (as_cell c.args.k) (sym c.parts_of-parts.ensures ∙ c.in-One.is) (c.requires.0 c.in-One.a))
+
+pub returns-in-Two : goal.returns-in-Two
+returns-in-Two c =
+    let size : length c.args.marks ≡ 129 = search rules in
+    subst (Adds c.args.rep.now c.args.marks (as_cell c.args.k)) (sym (c.with_class-in-Two-2.ensures ∙ ap (λ l. set l (class_at c.args.rep.now c.in-Two.a) 1) c.with_class-in-Two.ensures))
+    (adds_two c.args.rep.now c.args.marks size (as_cell c.args.k) (sym c.parts_of-parts.ensures ∙ c.in-Two.is) (c.requires.0 c.in-Two.b) (c.requires.0 c.in-Two.a))

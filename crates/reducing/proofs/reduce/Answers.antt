@@ -1,0 +1,35 @@
+-- `reducing::reduce` keeps its promise: each way out cites the law of its reply.
+use native.Mathlib.Omega.{arith}
+use Rattle.model.proofs.Accepted.{Bytes}
+use Rattle.casefile.proofs.CaseFile.{case_refused, case_accepted, case_variable, case_words, case_events}
+use Rattle.reducing.proofs.PromiseLaws.{promise_refused, promise_variable}
+use Rattle.reducing.proofs.CaseLaws.{case_solid, answer_short, answer_reduced}
+use Rattle.reducing.proofs.reduce.Goals as goal
+
+pub returns-in-Refused : goal.returns-in-Refused
+returns-in-Refused c = promise_refused c.args.file.now c.args.out.now _ _ (case_refused c.args.file.now c.read_case-case.result c.read_case-case.ensures _ _ c.in-Refused.is)
+
+pub returns-in-At : goal.returns-in-At
+returns-in-At c =
+    let w = case_accepted c.args.file.now c.read_case-case.result c.read_case-case.ensures c.in_default.is in
+    promise_variable c.args.file.now c.args.out.now w.f w.read _ (case_variable w _ c.in-At.is)
+
+pub plan_run-plan-requires : goal.plan_run-plan-requires
+plan_run-plan-requires c =
+    let fits : Bytes c.args.file.now = λ i. omega (arith, c.type_inv.file i) in
+    let w = case_accepted c.args.file.now c.read_case-case.result c.read_case-case.ensures c.in_default.is in
+    record { table_words = case_words w fits; solid = case_solid w fits c.in_default-variable.is; run_words = case_events w }
+
+pub returns-then-out-length : goal.returns-then-out-length
+returns-then-out-length c =
+    let fits : Bytes c.args.file.now = λ i. omega (arith, c.type_inv.file i) in
+    let w = case_accepted c.args.file.now c.read_case-case.result c.read_case-case.ensures c.in_default.is in
+    let p = c.plan_run-plan.ensures in
+    answer_short w fits c.in_default-variable.is p.sized p.reduced c.args.out.now _ c.needed-length.ensures.1 c.if-out-length.true
+
+pub returns : goal.returns
+returns c =
+    let fits : Bytes c.args.file.now = λ i. omega (arith, c.type_inv.file i) in
+    let w = case_accepted c.args.file.now c.read_case-case.result c.read_case-case.ensures c.in_default.is in
+    let p = c.plan_run-plan.ensures in
+    answer_reduced w fits c.in_default-variable.is p.sized p.reduced c.args.out.now _ _ c.needed-length.ensures.1 c.if-out-length.false c.write_plan.ensures
