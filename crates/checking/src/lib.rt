@@ -17,7 +17,7 @@ use casefile::events::Verdict;
 use cells::{Run, Table};
 
 // The reply: a refusal with its number and place, or whether the list is right.
-#[derive(Drop)]
+#[derive(Clone, Copy)]
 pub enum Judged {
     Refused(u8, usize),
     Wrong,

@@ -159,7 +159,7 @@ module _ {file : List ℕ} {r : Case} (w : CaseFile file r) (a b : ℕ) (before 
 -- A list that equates two cells comes with values that make them equal.
 pub equated_values : (file : List ℕ) (f : File) (a b : ℕ) (list : List ℕ) → read_file file ≡ accepted f → EquatedBy f a b list →
     (ρ : ℕ → Message) × (message (table_of f.cells) ρ a ≡ message (table_of f.cells) ρ b)
-equated_values file f a b list read w = equates_values (table_of f.cells) a b _ (accepted_file file f read).lower w.equates
+equated_values file f a b _ read w = equates_values (table_of f.cells) a b _ (accepted_file file f read).lower w.equates
 
 pub never_equated : (file : List ℕ) (f : File) (a b : ℕ) (list : List ℕ) → read_file file ≡ accepted f → NeverEqual f a b → EquatedBy f a b list → ⊥
 never_equated file f a b list read never w = let (ρ, e) = equated_values file f a b list read w in never ρ e

@@ -13,7 +13,7 @@ use casefile::events::Verdict;
 use cells::{Table, is_variable};
 
 // The reply: a refusal with its number and place, "no", or the number of bytes written.
-#[derive(Drop)]
+#[derive(Clone, Copy)]
 pub enum Equated {
     Refused(u8, usize),
     No,
