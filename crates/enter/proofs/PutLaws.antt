@@ -28,8 +28,11 @@ put_join {text} {more} {before} {between} {at = at} {r = r} p q =
     }
 
 -- It ends within the buffer, whose length stays.
+pub put_kept : {text before after : List ℕ} {at r : ℕ} → Put text before at after r → length after ≡ length before
+put_kept {text} {before} {at = at} p = ap length p.bytes ∙ length-sets before at text
+
 pub put_inside : {text before after : List ℕ} {at r : ℕ} → Put text before at after r → r ≤ length after
-put_inside {text} {before} {after} {at = at} p = let k : length after ≡ length before = ap length p.bytes ∙ length-sets before at text in let h = p.room in omega arith
+put_inside p = let k = put_kept p in let h = p.room in omega arith
 
 -- One byte more.
 pub sets_next : (before text : List ℕ) (at i : ℕ) → i < length text → set (sets before at (take i text)) (at + i) (get_or text i 0) ≡ sets before at (take (i + 1) text)

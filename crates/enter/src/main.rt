@@ -7,7 +7,8 @@ mod refusal;
 ghost use Rattle.std.specs.Prelude.{◌≤◌, length};
 ghost use Rattle.enter.specs.Enters.{Filled, Enters};
 
-use libc::{STDERR_FILENO, STDIN_FILENO, STDOUT_FILENO};
+use std::io;
+use std::io::{Read, Write};
 use typing::Entered;
 
 // What reading came to: the number of bytes at the front of the buffer, or that a read failed.
@@ -18,23 +19,22 @@ enum Input {
 }
 
 // One read, of at most as many bytes as the buffer holds.
-fn read_some(rest: &mut [u8]) -> Input
+fn read_some<R: Read>(input: &mut R, rest: &mut [u8]) -> Input
     ensures { Filled rest.new result }
 {
-    let got = libc::read(STDIN_FILENO, rest);
-    if got < 0 {
-        return Input::Failed;
+    match input.read(rest) {
+        Ok(n) => Input::Bytes(n),
+        Err(_) => Input::Failed,
     }
-    Input::Bytes(io::count(got, rest))
 }
 
 // Reads until the buffer is full or the input ends.
-fn read_start(start: &mut [u8]) -> Input
+fn read_start<R: Read>(input: &mut R, start: &mut [u8]) -> Input
     ensures { Filled start.new result }
 {
     let mut done: usize = 0;
     while done < start.len() {
-        let some = read_some(&mut start[done..]);
+        let some = read_some(input, &mut start[done..]);
         let Input::Bytes(n) = some else {
             return Input::Failed;
         };
@@ -55,52 +55,56 @@ fn file_of(text: &[u8], out: &mut [u8]) -> Entered
 }
 
 // Tells a refusal, with the line and column of its place.
-fn tell_refusal(text: &[u8], number: u8, place: usize)
+fn tell_refusal<W: Write>(text: &[u8], number: u8, place: usize, errors: &mut W) -> io::Result<()>
     requires { length text.now ≤ 65536 }
 {
     let mut out = [0u8; 128];
     let spot = refusal::spot_of(text, place);
     let size = refusal::lay_refusal(number, place, spot, &mut out);
-    io::write_all(STDERR_FILENO, &out[..size]);
+    errors.write_all(&out[..size])
 }
 
 // Writes the file of a text, in one write where the system takes it whole; or tells why there is none.
-fn enter_text(text: &[u8])
+fn enter_text<O: Write, W: Write>(text: &[u8], output: &mut O, errors: &mut W) -> io::Result<()>
     requires { length text.now ≤ 65536 }
 {
     let mut out = [0u8; 898];
     let entered = file_of(text, &mut out);
     match entered {
-        Entered::Refused(number, place) => tell_refusal(text, number, place),
-        Entered::Written(size) => {
-            if !io::write_all(STDOUT_FILENO, &out[..size]) {
-                io::write_all(STDERR_FILENO, b"enter: the file cannot be written\n");
+        Entered::Refused(number, place) => tell_refusal(text, number, place, errors),
+        Entered::Written(size) => match output.write_all(&out[..size]) {
+            Ok(()) => Ok(()),
+            Err(e) => {
+                errors.write_all(b"enter: the file cannot be written\n")?;
+                Err(e)
             }
-        }
+        },
     }
 }
 
 // Enters the first n bytes of the buffer, which has room for one byte more than a text may have.
-fn enter_start(start: &[u8], n: usize)
+fn enter_start<O: Write, W: Write>(
+    start: &[u8],
+    n: usize,
+    output: &mut O,
+    errors: &mut W,
+) -> io::Result<()>
     requires { n ≤ length start.now }
 {
     if 65536 < n {
-        io::write_all(
-            STDERR_FILENO,
-            b"enter: the input is longer than 65536 bytes\n",
-        );
-        return;
+        return errors.write_all(b"enter: the input is longer than 65536 bytes\n");
     }
-    enter_text(&start[..n])
+    enter_text(&start[..n], output, errors)
 }
 
-fn main() {
+// What failed has been told, so the status is 0 all the same.
+fn main(rt: HostRuntime) {
     let mut start = [0u8; 65537];
-    let input = read_start(&mut start);
-    match input {
-        Input::Bytes(n) => enter_start(&start, n),
-        Input::Failed => {
-            io::write_all(STDERR_FILENO, b"enter: the input cannot be read\n");
-        }
-    }
+    let mut errors = rt.stderr();
+    let input = read_start(&mut rt.stdin(), &mut start);
+    let told = match input {
+        Input::Bytes(n) => enter_start(&start, n, &mut rt.stdout(), &mut errors),
+        Input::Failed => Write::write_all(&mut errors, b"enter: the input cannot be read\n"),
+    };
+    let _ = told;
 }

@@ -1,12 +1,9 @@
 -- What the readers of messages and lists find, return by return.
 use mathlib.Core.Path.{◌≡◌, refl, sym, ◌∙◌, ap, subst}
-use mathlib.Core.Logic.{◌⊎◌, ⊎_elim}
 use mathlib.Core.List.{List, [], ◌∷◌, ◌++◌, map}
 use Prim.Native.Nat.{ℕ, suc, ◌+◌, ◌-◌, ◌≤◌, ◌<◌}
 use native.Mathlib.Omega.{arith}
 use native.Mathlib.Decide.{dec_lt}
-use types.Run.{OneOf}
-use denote.Enum.Declared as declared
 use lib.ListN.{length, get_or}
 use Rattle.model.specs.Case.{AT, VA, SE, AP}
 use Rattle.model.specs.Stored.{word_of}
@@ -29,8 +26,6 @@ use Rattle.typing.specs.declared.message.How.TheVariants as how
 use Rattle.typing.specs.declared.message.Reading.{Reading}
 use Rattle.typing.specs.Store.{Enters, no_items, with_item, right_of}
 use Rattle.typing.specs.Readers.{NumberRead, LeadAt, Completes, PhraseFound, MessageRead, ListRead, wrong_at, EnteredAs, PairedAs}
-use Rattle.typing.specs.contracts.message.How as tags
-use Rattle.typing.specs.contracts.message.Lead as leads
 use Rattle.typing.proofs.Completing.{completes_name, completes_variable, completes_one, completes_seal, right_same, SoFar, sofar_none, sofar_more, completes_list}
 
 -- ---- bytes and replies
@@ -54,9 +49,9 @@ module _ (P : Phrase) (says : P.Of → Typed) (s : List ℕ) (at : ℕ) (before 
   found_entered a to after word r (p, put, e) f c = subst (λ (x : Reading). PhraseFound P says s at before x.how x.store) (sym e) (a, f, c p put)
 
   -- A part that was not read: the fault is the whole's.
-  pub found_else : (Q : Phrase) (says' : Q.Of → Typed) (i : ℕ) (mid : Store) (h : How) (after : Store) → OneOf (1 ∷ 2 ∷ []) (declared.tag_of tags.the_type h) → PhraseFound Q says' s i mid h after →
+  pub found_else : (Q : Phrase) (says' : Q.Of → Typed) (i : ℕ) (mid : Store) (h : How) (after : Store) → ((x y : ℕ) → h ≡ how.Read x y → ⊥) → PhraseFound Q says' s i mid h after →
       ((p : ℕ) → Finds Q s i (wrong p) → Finds P s at (wrong p)) → ((p : ℕ) → Finds Q s i (deep p) → Finds P s at (deep p)) → PhraseFound P says s at before h after
-  found_else Q says' i mid (how.Read to cell) after k f w d = ⊎_elim (λ z. absurd (omega arith)) (λ z. absurd (omega arith)) k
+  found_else Q says' i mid (how.Read to cell) after k f w d = absurd (k to cell refl)
   found_else Q says' i mid (how.Wrong p) after k f w d = w p f
   found_else Q says' i mid (how.Deep p) after k f w d = d p f
 
@@ -92,7 +87,7 @@ module _ (s : List ℕ) (at d k : ℕ) (h : d ≤ 16) (z : k ≡ suc d) (before 
   -- ---- groups
 
   module _ (here : Byte s at 40) (r : Reading) (inner : ListRead s (at + 1) k before r) where
-    pub group_else : OneOf (1 ∷ 2 ∷ []) (declared.tag_of tags.the_type r.how) → MessageRead s at d before r
+    pub group_else : ((x y : ℕ) → r.how ≡ how.Read x y → ⊥) → MessageRead s at d before r
     group_else t =
         found_else (message d) message_says s at before (list (suc d)) list_says (at + 1) before r.how r.store t (subst (λ x. ListRead s (at + 1) x before r) z inner)
         (λ p. group_wrong s at d h (byte_has s at 40 here) p) (λ p. group_deep s at d h (byte_has s at 40 here) p)
@@ -122,7 +117,7 @@ module _ (s : List ℕ) (at d k : ℕ) (h : d ≤ 16) (z : k ≡ suc d) (before 
       apply_unopened r w m = found_wrong (message d) message_says s at before spot before r w (apply_bare s at d h (byte_has s at 102 here) spot g number_is.0 (number_is.1 d h) (byte_misses s spot 40 m))
 
       module _ (b : Byte s spot 40) (r : Reading) (inner : ListRead s (spot + 1) k before r) where
-        pub apply_else : OneOf (1 ∷ 2 ∷ []) (declared.tag_of tags.the_type r.how) → MessageRead s at d before r
+        pub apply_else : ((x y : ℕ) → r.how ≡ how.Read x y → ⊥) → MessageRead s at d before r
         apply_else t =
             found_else (message d) message_says s at before (list (suc d)) list_says (spot + 1) before r.how r.store t (subst (λ x. ListRead s (spot + 1) x before r) z inner)
             (λ p. apply_wrong s at d h (byte_has s at 102 here) spot g number_is.0 (number_is.1 d h) (byte_has s spot 40 b) p)
@@ -151,7 +146,7 @@ module _ (s : List ℕ) (at d k : ℕ) (h : d ≤ 16) (z : k ≡ suc d) (before 
     seal_unopened r w n = found_wrong (message d) message_says s at before (at + 1) before r w (seal_bare s at d h (byte_has s at 123 here) (byte_misses s (at + 1) 124 n))
 
     module _ (b : Byte s (at + 1) 124) (r : Reading) (inner : ListRead s (at + 2) k before r) where
-      pub seal_else : OneOf (1 ∷ 2 ∷ []) (declared.tag_of tags.the_type r.how) → MessageRead s at d before r
+      pub seal_else : ((x y : ℕ) → r.how ≡ how.Read x y → ⊥) → MessageRead s at d before r
       seal_else t =
           found_else (message d) message_says s at before (list (suc d)) list_says (at + 2) before r.how r.store t (subst (λ x. ListRead s (at + 2) x before r) z inner)
           (λ p. seal_wrong s at d h (byte_has s at 123 here) (byte_has s (at + 1) 124 b) p) (λ p. seal_deep s at d h (byte_has s at 123 here) (byte_has s (at + 1) 124 b) p)
@@ -172,7 +167,7 @@ module _ (s : List ℕ) (at d k : ℕ) (h : d ≤ 16) (z : k ≡ suc d) (before 
               (seal_half s at d h (byte_has s at 123 here) (byte_has s (at + 1) 124 b) to sealed_list.0 sealed_list.1 (byte_has s to 124 c) (byte_misses s (to + 1) 125 n))
 
           module _ (y : Byte s (to + 1) 125) (q : Reading) (key : MessageRead s (to + 2) k r.store q) where
-            pub seal_unkeyed : OneOf (1 ∷ 2 ∷ []) (declared.tag_of tags.the_type q.how) → MessageRead s at d before q
+            pub seal_unkeyed : ((x y : ℕ) → q.how ≡ how.Read x y → ⊥) → MessageRead s at d before q
             seal_unkeyed t =
                 found_else (message d) message_says s at before (message (suc d)) message_says (to + 2) r.store q.how q.store t (subst (λ x. MessageRead s (to + 2) x r.store q) z key)
                 (λ p. seal_key_wrong s at d h (byte_has s at 123 here) (byte_has s (at + 1) 124 b) to sealed_list.0 sealed_list.1 (byte_has s to 124 c) (byte_has s (to + 1) 125 y) p)
@@ -197,15 +192,14 @@ module _ (s : List ℕ) (at d : ℕ) (before : Store) (l : Lead) (f : LeadAt s a
       (byte_misses s at 123 (λ b. (n b.0).3 b.1)) (byte_misses s at 40 (λ b. (n b.0).4 b.1)))
 
 -- A message may begin there, one deeper than 16.
-pub lead_deep : (s : List ℕ) (at d : ℕ) (before : Store) (l : Lead) → LeadAt s at l → OneOf (0 ∷ 1 ∷ 2 ∷ 3 ∷ 4 ∷ []) (declared.tag_of leads.the_type l) → 16 < d →
+pub lead_deep : (s : List ℕ) (at d : ℕ) (before : Store) (l : Lead) → LeadAt s at l → (l ≡ lead.Nothing → ⊥) → 16 < d →
     MessageRead s at d before (record { how = how.Deep at; store = before })
 lead_deep s at d before lead.Atom b t h = message_deep s at d an_atom h (byte_has s at 97 b)
 lead_deep s at d before lead.Variable b t h = message_deep s at d a_variable h (byte_has s at 88 b)
 lead_deep s at d before lead.Apply b t h = message_deep s at d an_application h (byte_has s at 102 b)
 lead_deep s at d before lead.Seal b t h = message_deep s at d a_seal h (byte_has s at 123 b)
 lead_deep s at d before lead.Group b t h = message_deep s at d a_group h (byte_has s at 40 b)
-lead_deep s at d before lead.Nothing b t h =
-    ⊎_elim (λ z. absurd (omega arith)) (⊎_elim (λ z. absurd (omega arith)) (⊎_elim (λ z. absurd (omega arith)) (⊎_elim (λ z. absurd (omega arith)) (λ z. absurd (omega arith))))) t
+lead_deep s at d before lead.Nothing b t h = absurd (t refl)
 
 -- ---- lists
 
@@ -224,7 +218,7 @@ map_snoc [] m = refl
 map_snoc (n ∷ ms) m = ap (λ l. message_says n ∷ l) (map_snoc ms m)
 
 module _ (s : List ℕ) (at d : ℕ) (before : Store) (i : ℕ) (cells : Store) (items : Items) (a : ListAt s at d before i cells items) (r : Reading) (m : MessageRead s i d cells r) where
-  pub list_else : OneOf (1 ∷ 2 ∷ []) (declared.tag_of tags.the_type r.how) → ListRead s at d before r
+  pub list_else : ((x y : ℕ) → r.how ≡ how.Read x y → ⊥) → ListRead s at d before r
   list_else t =
       found_else (list d) list_says s at before (message d) message_says i cells r.how r.store t m
       (λ p f. a.listing (wrong p) (list_wrong s d i p f)) (λ p f. a.listing (deep p) (list_deep s d i p f))

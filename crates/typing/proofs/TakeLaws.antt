@@ -242,8 +242,8 @@ module _ (lines : Lines) (store : Store) (e : Event) (at to : ℕ) where
     pub take_loose : LooseSays lines store e true → Taken lines store e at to (record { verdict = verdict.Refused 6 at; lines = lines })
     take_loose x s es l k g n = told_loose s at es l to g (not_many es lines k l store e n f room) (loose_yes es lines k l store e n f x)
 
-    pub take_line : LooseSays lines store e false → (after : Lines) → after ≡ with_event lines store e → Taken lines store e at to (record { verdict = verdict.Next to; lines = after })
-    take_line x after z s es l k g n =
+    pub take_line : LooseSays lines store e false → (next : Lines) → next ≡ with_event lines store e → Taken lines store e at to (record { verdict = verdict.Next to; lines = next })
+    take_line x next z s es l k g n =
         let tied = loose_no es lines k l store e n f x in
         (l, g, not_many es lines k l store e n f room, tied, subst (Kept (es ++ (line_says l ∷ []))) (sym z) (kept_next es lines k l store e n f room tied))
 

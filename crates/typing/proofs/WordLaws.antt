@@ -1,12 +1,9 @@
 -- What the readers of words and lines find, return by return.
 use mathlib.Core.Path.{◌≡◌, refl, sym, ◌∙◌, ap, subst}
-use mathlib.Core.Logic.{⊎_elim}
-use mathlib.Core.List.{List, [], ◌∷◌}
+use mathlib.Core.List.{List, ◌∷◌}
 use Prim.Native.Nat.{ℕ, zero, suc, ◌+◌, ◌≤◌, ◌<◌}
 use native.Mathlib.Omega.{arith}
 use native.Mathlib.Decide.{dec_lt}
-use types.Run.{OneOf}
-use denote.Enum.Declared as declared
 use lib.ListN.{length, get_or, drop, take, drop_of_length-le}
 use lib.Seq.{get_or-drop}
 use Rattle.model.proofs.Read.{clash}
@@ -27,7 +24,6 @@ use Rattle.typing.specs.declared.line.LineFound.{LineFound}
 use Rattle.typing.specs.declared.line.LineFound.TheVariants as found
 use Rattle.typing.specs.Readers.{PhraseFound, ListRead, wrong_at}
 use Rattle.typing.specs.Lines.{Matched, spelling, WordRead, found_for, LineFoundAs, RestRead, FindsLine}
-use Rattle.typing.specs.contracts.message.How as tags
 use Rattle.typing.proofs.MessageLaws.{Byte, byte_has, byte_misses}
 
 -- ---- bytes of a word
@@ -103,12 +99,12 @@ module _ (s : List ℕ) (at : ℕ) (before : Store) (r : Reading) (f : ListRead 
   starts word.Learn i (reads _ _ r h) = byte_has s i 108 (first_byte s i 108 _ r.bytes)
   starts word.Make i (reads _ _ r h) = byte_has s i 109 (first_byte s i 109 _ r.bytes)
 
-  pub rest_else : OneOf (1 ∷ 2 ∷ []) (declared.tag_of tags.the_type r.how) → RestRead s at before r
+  pub rest_else : ((x y : ℕ) → r.how ≡ how.Read x y → ⊥) → RestRead s at before r
   rest_else t w i g = go w g (starts w i g) r.how t f
     where
-      go : (w : Word) → Finds (token 0 (spelling w)) s i (read tt at) → Has s i (initial (as_word w)) → (h : How) → OneOf (1 ∷ 2 ∷ []) (declared.tag_of tags.the_type h) →
+      go : (w : Word) → Finds (token 0 (spelling w)) s i (read tt at) → Has s i (initial (as_word w)) → (h : How) → ((x y : ℕ) → h ≡ how.Read x y → ⊥) →
           PhraseFound (list 0) list_says s at before h r.store → LineFoundAs s i before (found_for w h) r.store
-      go w g a (how.Read to cell) k x = ⊎_elim (λ z. absurd (omega arith)) (λ z. absurd (omega arith)) k
+      go w g a (how.Read to cell) k x = absurd (k to cell refl)
       go word.Learn g a (how.Wrong p) k x = line_wrong s i lines.Word.Learn a at g p x
       go word.Make g a (how.Wrong p) k x = line_wrong s i lines.Word.Make a at g p x
       go word.Learn g a (how.Deep p) k x = line_deep s i lines.Word.Learn a at g p x

@@ -1,9 +1,7 @@
 -- The lines before `at` say entries, which are kept.
-use Prim.Native.Nat.{◌-◌}
 use native.Mathlib.Omega.{arith}
-use lib.ListN.{length}
 use Rattle.grammar.specs.Text.{refused, said, refusal}
-use Rattle.typing.proofs.TakeLaws.{TextAt, text_start, text_refused, text_behind, text_next, text_end}
+use Rattle.typing.proofs.TakeLaws.{text_start, text_refused, text_behind, text_next, text_end}
 use Rattle.typing.proofs.read_text.Goals as goal
 
 pub loop-at-init : goal.loop-at-init
@@ -23,7 +21,7 @@ pub loop-at-preserved : goal.loop-at-preserved
 loop-at-preserved c = text_next c.args.text.now c.loop-at.lines c.loop-at.at c.loop-at.invariant c.read_line-read.result c.read_line-read.ensures _ c.in-Next.is
 
 pub write_file-requires : goal.write_file-requires
-write_file-requires c κs =
+write_file-requires c =
     (omega (arith, c.loop-at.invariant.kept.cells.counts, c.loop-at.invariant.kept.cells.room), omega (arith, c.loop-at.invariant.kept.counts, c.loop-at.invariant.kept.few))
 
 pub returns : goal.returns

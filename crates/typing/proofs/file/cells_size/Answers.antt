@@ -1,6 +1,5 @@
 -- The size is that of the records before c.
 use mathlib.Core.Path.{◌≡◌, sym, ap, ◌∙◌}
-use Prim.Native.Nat.{◌-◌, ◌*◌, ◌≤◌}
 use native.Mathlib.Omega.{arith}
 use lib.ListN.{length}
 use Rattle.model.specs.Stored.{table_in}
@@ -13,7 +12,7 @@ pub loop-c-init : goal.loop-c-init
 loop-c-init c = (omega arith, ap length (sym (row_none cell_bytes (table_in c.args.table.now))), omega arith)
 
 pub overflow_add-size : goal.overflow_add-size
-overflow_add-size c = omega (arith, c.loop-c.invariant.2, c.loop-c-test.true, c.requires, c.type_size.ensures, cell_size (as_cell c.cell_at.result))
+overflow_add-size c = omega (arith, c.loop-c.invariant.2, c.loop-c-test.true, c.requires, c.size_of-size.ensures, cell_size (as_cell c.cell_at.result))
 
 pub overflow_add-c : goal.overflow_add-c
 overflow_add-c c = omega (arith, c.loop-c-test.true)
@@ -23,7 +22,7 @@ loop-c-smaller c = omega (arith, c.loop-c-test.true)
 
 pub loop-c-preserved : goal.loop-c-preserved
 loop-c-preserved c =
-    (omega (arith, c.loop-c-test.true), omega (arith, c.loop-c.invariant.1, c.type_size.ensures, ap (λ k. length (cell_bytes k)) c.cell_at.ensures, row_length cell_bytes (table_in c.args.table.now) c.loop-c.c), omega (arith, c.loop-c.invariant.2, c.type_size.ensures, cell_size (as_cell c.cell_at.result)))
+    (omega (arith, c.loop-c-test.true), omega (arith, c.loop-c.invariant.1, c.size_of-size.ensures, ap (λ k. length (cell_bytes k)) c.cell_at.ensures, row_length cell_bytes (table_in c.args.table.now) c.loop-c.c), omega (arith, c.loop-c.invariant.2, c.size_of-size.ensures, cell_size (as_cell c.cell_at.result)))
 
 pub returns : goal.returns
 returns c =

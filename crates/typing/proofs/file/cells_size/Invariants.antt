@@ -1,12 +1,10 @@
 -- The size is that of the records before c.
-use mathlib.Core.Path.{◌≡◌, sym, ap, ◌∙◌}
+use mathlib.Core.Path.{◌≡◌}
 use Prim.Native.Nat.{◌-◌, ◌*◌, ◌≤◌}
-use native.Mathlib.Omega.{arith}
 use lib.ListN.{length}
 use Rattle.model.specs.Stored.{table_in}
 use Rattle.model.specs.Format.{cell_bytes}
-use Rattle.cells.specs.Cells.{as_cell}
-use Rattle.typing.proofs.FileLaws.{row, row_none, row_length, cell_size}
+use Rattle.typing.proofs.FileLaws.{row}
 use Rattle.typing.proofs.file.cells_size.Given as goal
 
 abbrev pub invariant-loop-c : goal.invariant-loop-c

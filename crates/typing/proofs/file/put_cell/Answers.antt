@@ -7,19 +7,19 @@ use Rattle.typing.proofs.FileLaws.{bytes_name, bytes_variable, bytes_pair, bytes
 use Rattle.typing.proofs.file.put_cell.Goals as goal
 
 pub put_fields-requires : goal.put_fields-requires
-put_fields-requires c κs = omega (arith, c.requires, ap length (bytes_name c.in-Atom.is))
+put_fields-requires c = omega (arith, c.requires, ap length (bytes_name c.in-Atom.is))
 
 pub put_mark-requires : goal.put_mark-requires
-put_mark-requires c κs = omega (arith, c.requires, ap length (bytes_variable c.in-Variable.is))
+put_mark-requires c = omega (arith, c.requires, ap length (bytes_variable c.in-Variable.is))
 
 pub put_fields-requires-in-Pair : goal.put_fields-requires-in-Pair
-put_fields-requires-in-Pair c κs = omega (arith, c.requires, ap length (bytes_pair c.in-Pair.is))
+put_fields-requires-in-Pair c = omega (arith, c.requires, ap length (bytes_pair c.in-Pair.is))
 
 pub put_fields-requires-in-Seal : goal.put_fields-requires-in-Seal
-put_fields-requires-in-Seal c κs = omega (arith, c.requires, ap length (bytes_seal c.in-Seal.is))
+put_fields-requires-in-Seal c = omega (arith, c.requires, ap length (bytes_seal c.in-Seal.is))
 
 pub put_fields-requires-in-Apply : goal.put_fields-requires-in-Apply
-put_fields-requires-in-Apply c κs = omega (arith, c.requires, ap length (bytes_apply c.in-Apply.is))
+put_fields-requires-in-Apply c = omega (arith, c.requires, ap length (bytes_apply c.in-Apply.is))
 
 pub returns-in-Atom : goal.returns-in-Atom
 returns-in-Atom c = c.put_fields.ensures ∙ ap (sets c.args.out.now c.args.at) (bytes_name c.in-Atom.is)

@@ -1,7 +1,6 @@
 -- The records of the events before p stand in the buffer.
-use mathlib.Core.List.{[], ◌∷◌}
 use mathlib.Core.Path.{◌≡◌, refl, sym, ap, ◌∙◌}
-use Prim.Native.Nat.{◌+◌, ◌-◌, ◌*◌, ◌≤◌}
+use Prim.Native.Nat.{◌+◌, ◌*◌}
 use native.Mathlib.Omega.{arith}
 use lib.Seq.{sets}
 use lib.ListN.{length}
@@ -9,12 +8,6 @@ use Rattle.model.specs.Format.{event_bytes}
 use Rattle.typing.specs.File.{events_in}
 use Rattle.typing.proofs.FileLaws.{row, row_none, row_put, events_row, events_end, sets_kept}
 use Rattle.typing.proofs.file.put_events.Goals as goal
-
--- LEFT: no goal is called same-length now
--- let c1 = c.before.before in
---     let c2 = c1.before.before.before.before in
---     let s = c2.before.before in
---     sets_kept (length s.args.out.now) c2.loop.out _ (s.args.start + 3 * s.args.n) (69 ∷ 78 ∷ []) c2.loop.invariant.2 c1.put-mark.ensures
 
 pub loop-p-init : goal.loop-p-init
 loop-p-init c = (omega arith, ap (sets c.args.out.now c.args.start) (sym (row_none event_bytes (events_in c.args.run.now))), refl)
@@ -26,10 +19,10 @@ pub overflow_add-start : goal.overflow_add-start
 overflow_add-start c = omega (arith, c.loop-p-test.true, c.requires.1)
 
 pub event_at-requires : goal.event_at-requires
-event_at-requires c κs = omega (arith, c.loop-p-test.true, c.requires.0)
+event_at-requires c = omega (arith, c.loop-p-test.true, c.requires.0)
 
 pub put_event-requires : goal.put_event-requires
-put_event-requires c κs = omega (arith, c.loop-p-test.true, c.requires.1, c.loop-p.invariant.2)
+put_event-requires c = omega (arith, c.loop-p-test.true, c.requires.1, c.loop-p.invariant.2)
 
 pub overflow_add-p : goal.overflow_add-p
 overflow_add-p c = omega (arith, c.loop-p-test.true)
@@ -50,7 +43,7 @@ pub overflow_add-start-2 : goal.overflow_add-start-2
 overflow_add-start-2 c = omega (arith, c.requires.1)
 
 pub put_mark-requires : goal.put_mark-requires
-put_mark-requires c κs = omega (arith, c.requires.1, c.loop-p.invariant.2)
+put_mark-requires c = omega (arith, c.requires.1, c.loop-p.invariant.2)
 
 pub returns : goal.returns
 returns c =

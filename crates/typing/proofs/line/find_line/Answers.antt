@@ -3,7 +3,7 @@ use Rattle.typing.proofs.WordLaws.{line_unspelt, line_spelt, spelt_within}
 use Rattle.typing.proofs.line.find_line.Goals as goal
 
 pub read_rest-rest-requires : goal.read_rest-rest-requires
-read_rest-rest-requires c κs = spelt_within c.args.text.now c.args.at c.args.store _ c.read_word-spelt.ensures _ _ c.in-Word.is
+read_rest-rest-requires c = spelt_within c.args.text.now c.args.at c.args.store _ c.read_word-spelt.ensures _ _ c.in-Word.is
 
 pub returns-in-Wrong : goal.returns-in-Wrong
 returns-in-Wrong c = line_unspelt c.args.text.now c.args.at c.args.store _ c.read_word-spelt.ensures _ c.in-Wrong.is

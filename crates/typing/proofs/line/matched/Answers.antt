@@ -1,9 +1,6 @@
 -- The bytes before i match.
-use Prim.Native.Nat.{◌-◌}
 use native.Mathlib.Omega.{arith}
-use lib.ListN.{length}
-use borrow.Author.Tests.{not-true, not-false}
-use Rattle.typing.proofs.WordLaws.{Matching, matching_none, matching_more, matched_stop, matched_all}
+use Rattle.typing.proofs.WordLaws.{matching_none, matching_more, matched_stop, matched_all}
 use Rattle.typing.proofs.line.matched.Goals as goal
 
 pub loop-i-init : goal.loop-i-init

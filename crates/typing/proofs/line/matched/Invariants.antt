@@ -1,9 +1,7 @@
 -- The bytes before i match.
 use Prim.Native.Nat.{◌-◌}
-use native.Mathlib.Omega.{arith}
 use lib.ListN.{length}
-use borrow.Author.Tests.{not-true, not-false}
-use Rattle.typing.proofs.WordLaws.{Matching, matching_none, matching_more, matched_stop, matched_all}
+use Rattle.typing.proofs.WordLaws.{Matching}
 use Rattle.typing.proofs.line.matched.Given as goal
 
 abbrev pub invariant-loop-i : goal.invariant-loop-i

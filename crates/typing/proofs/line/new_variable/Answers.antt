@@ -1,10 +1,8 @@
 -- No cell from `from` up to c is a variable.
 use mathlib.Core.Path.{◌≡◌, sym, ◌∙◌, ap}
-use Prim.Native.Nat.{ℕ, ◌-◌, ◌≤◌, ◌<◌}
 use native.Mathlib.Decide.{dec_lt}
 use native.Mathlib.Omega.{arith}
 use Rattle.model.specs.Stored.{table_in}
-use Rattle.model.specs.Case.{VA}
 use Rattle.theory.proofs.Decides.{decides_yes, decides_no}
 use Rattle.typing.proofs.line.new_variable.Goals as goal
 

@@ -1,6 +1,5 @@
 -- The list, then the line feed.
 use native.Mathlib.Omega.{arith}
-use borrow.Author.Tests.{not-true, not-false}
 use Rattle.typing.proofs.WordLaws.{rest_else, rest_stuck, rest_done}
 use Rattle.typing.proofs.line.read_rest.Goals as goal
 

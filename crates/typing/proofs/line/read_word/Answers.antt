@@ -3,9 +3,6 @@ use native.Mathlib.Omega.{arith}
 use Rattle.typing.proofs.WordLaws.{word_learn, word_make, word_stops_learn, word_stops_make}
 use Rattle.typing.proofs.line.read_word.Goals as goal
 
--- LEFT: no goal is called overflow-add-t11 now
--- omega (arith, c.before.matched.ensures.within, c.if1.true)
-
 pub returns-then-learnt-eq6 : goal.returns-then-learnt-eq6
 returns-then-learnt-eq6 c = word_learn c.args.text.now c.args.at _ c.matched-learnt.ensures c.if-learnt-eq6.true
 

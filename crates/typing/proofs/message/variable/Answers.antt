@@ -1,5 +1,4 @@
 -- A letter and a number.
--- A letter and a number.
 use Prim.Native.Nat.{◌+◌}
 use native.Mathlib.Omega.{arith}
 use Rattle.typing.proofs.MessageLaws.{number_small, variable_none, variable_done}

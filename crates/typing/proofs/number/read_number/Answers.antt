@@ -1,9 +1,7 @@
 -- The digits so far are those of n.
 use mathlib.Core.Logic.{inl, inr}
-use Prim.Native.Nat.{◌-◌, ◌≤◌, ◌<◌}
 use native.Mathlib.Omega.{arith}
-use lib.ListN.{length}
-use Rattle.typing.proofs.NumberLaws.{Digits, digit_is, digit_not, number_none, number_first, number_more, number_done, number_ends}
+use Rattle.typing.proofs.NumberLaws.{digit_is, digit_not, number_none, number_first, number_more, number_done, number_ends}
 use Rattle.typing.proofs.number.read_number.Goals as goal
 
 pub returns-in_default : goal.returns-in_default

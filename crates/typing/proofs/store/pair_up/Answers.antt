@@ -1,6 +1,6 @@
 -- The pairs of the items from i on are entered.
 use mathlib.Core.Path.{◌≡◌, subst}
-use Prim.Native.Nat.{◌+◌, ◌-◌, ◌≤◌}
+use Prim.Native.Nat.{◌+◌, ◌-◌}
 use native.Mathlib.Omega.{arith}
 use Rattle.typing.proofs.StoreLaws.{PairedFrom, paired_start, paired_step, paired_all}
 use Rattle.typing.proofs.store.pair_up.Goals as goal

@@ -1,0 +1,7 @@
+-- The parts of the line, one behind the other.
+use Rattle.enter.proofs.PutLaws.{put_join}
+use Rattle.enter.proofs.refusal.lay_refusal.Goals as goal
+
+pub returns : goal.returns
+returns c =
+    put_join c.put_told-numbered.ensures.0 (put_join c.put_told-placed.ensures.0 (put_join c.put_told-lined.ensures.0 (put_join c.put_told-columned.ensures.0 c.put_text.ensures)))
