@@ -23,7 +23,12 @@ pub fn number_of(high: u8, low: u8) -> usize {
 }
 
 // An accepted file: how many cells and events, and where the first variable stands.
-fn print_accepted<W: Write>(to: &mut W, cells: usize, events: usize, variable: Found) -> io::Result<()> {
+fn print_accepted<W: Write>(
+    to: &mut W,
+    cells: usize,
+    events: usize,
+    variable: Found,
+) -> io::Result<()> {
     print(to, b"accepted ")?;
     print_number(to, cells)?;
     print(to, b" ")?;
@@ -96,7 +101,14 @@ fn ask_text<W: Write>(to: &mut W, room: usize, text: &[u8], out: &mut [u8]) -> i
 }
 
 // e: can the two cells be made equal? Then a list shows the most general values.
-fn ask_equated<W: Write>(to: &mut W, a: u8, b: u8, room: usize, file: &[u8], out: &mut [u8]) -> io::Result<()> {
+fn ask_equated<W: Write>(
+    to: &mut W,
+    a: u8,
+    b: u8,
+    room: usize,
+    file: &[u8],
+    out: &mut [u8],
+) -> io::Result<()> {
     if room > out.len() {
         return Ok(());
     }
@@ -168,7 +180,8 @@ pub fn ask<W: Write>(to: &mut W, head: &[u8], file: &[u8]) -> io::Result<()> {
         b'r' => ask_reduced(to, room, file, &mut out),
         b'y' => ask_run(to, room, file, &mut out),
         b't' => ask_text(to, room, file, &mut out),
-        b'e' => ask_equated(to, 
+        b'e' => ask_equated(
+            to,
             byte(head, 1),
             byte(head, 2),
             byte(head, 3) as usize,
