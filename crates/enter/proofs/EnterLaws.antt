@@ -1,10 +1,12 @@
--- What a read adds stays within the buffer; and the file of a text has at most 898 bytes, so none is refused with 9.
-use mathlib.Core.Path.{◌≡◌, refl, subst}
+-- What a read adds stands behind what was read; the file of a text has at most 898 bytes, so none is refused with 9.
+use mathlib.Core.Path.{◌≡◌, refl, ◌∙◌, ap, subst}
 use mathlib.Core.List.{List, [], ◌∷◌, ◌++◌}
-use Prim.Native.Nat.{ℕ, ◌+◌, ◌-◌, ◌*◌, ◌≤◌}
+use Prim.Native.Nat.{ℕ, ◌+◌, ◌*◌, ◌≤◌}
 use native.Mathlib.Omega.{arith}
-use lib.ListN.{length, take, drop, length-drop, length-append}
-use lib.Seq.{length-take-le}
+use lib.ListN.{length, take, drop, length-append}
+use lib.Seq.{length-take-le, take-add, take-append-le, drop_at}
+use borrow.Rule.Slice.PartMut.{put_mid, post_of}
+use Rattle.std.proofs.lemmas.Slice.{take-put_mid_below}
 use Rattle.model.proofs.Read.{clash}
 use Rattle.model.specs.Case.{Cell, Event, MK, LN}
 use Rattle.model.specs.Format.{cell_bytes, event_bytes, joined, file_bytes, mark, End}
@@ -17,23 +19,19 @@ use Rattle.grammar.proofs.Theorems.{accepted_iff_lines}
 use Rattle.typing.specs.declared.Entered.{Entered}
 use Rattle.typing.specs.Reply.{Refused, Written}
 use Rattle.typing.proofs.FileLaws.{cell_size}
-use Rattle.enter.specs.declared.Input.{Input}
-use Rattle.enter.specs.declared.Input.TheVariants.{Bytes}
-use Rattle.enter.specs.Enters.{Filled, Enters}
+use Rattle.typing.proofs.Theorems.{written_accepted}
+use Rattle.enter.specs.Enters.{Enters}
 
 -- ---- reading
 
-pub filled : (start : List ℕ) (r : Input) (n : ℕ) → r ≡ Bytes n → Filled start r → n ≤ length start
-filled start r n e h = subst (Filled start) e h
-
--- A read into the rest of the buffer.
-pub some_inside : (start rest : List ℕ) (done n : ℕ) (r : Input) → done ≤ length start → length rest ≡ length (take (length start - done) (drop done start)) → Filled rest r → r ≡ Bytes n →
-    done + n ≤ length start
-some_inside start rest done n r h e w i =
-    let l = filled rest r n i w in
-    let d = length-drop done start in
-    let t = length-take-le (length start - done) (drop done start) (omega arith) in
-    omega arith
+-- A read into the rest of the buffer, behind what was read before.
+pub more_read : (start rest : List ℕ) (done k n : ℕ) → done ≤ length start → n ≤ length rest → take (done + n) (put_mid done k start rest) ≡ take done start ++ take n rest
+more_read start rest done k n h l =
+    let before = take done start in
+    let behind = post_of done k start in
+    take-add done n (put_mid done k start rest)
+    ∙ (ap (λ x. x ++ take n (drop done (put_mid done k start rest))) (take-put_mid_below done k start rest done (omega arith) h)
+    ∙ ap (λ x. before ++ x) (ap (take n) (drop_at before (rest ++ behind) done (length-take-le done start h)) ∙ take-append-le n rest behind l))
 
 -- ---- a file has at most 898 bytes
 
@@ -95,3 +93,20 @@ enters text before after r h k w = record {
   inside = λ n e. let i = written_inside w.replied n e in omega arith;
   enough = no_nine h w.told w.replied;
 }
+
+-- ---- what is told of a text
+
+-- A refusal is one of the text: none is for want of room.
+pub refused_told : (text before after : List ℕ) (r : Entered) (n p : ℕ) → Enters text before r after → r ≡ Refused n p → Told [] 0 text (refused n p)
+refused_told text before after r n p w e = go w.reply.told w.reply.replied w.enough e
+  where
+    go : {o : Outcome} {r : Entered} {after : List ℕ} → Told [] 0 text o → Replied Refused Written before o r after → ((k : ℕ) → r ≡ Refused 9 k → ⊥) → r ≡ Refused n p → Told [] 0 text (refused n p)
+    go t (refusal number place) h e = (let z : refused number place ≡ refused n p = cc in subst (Told [] 0 text) z t)
+    go t (short es l) h e = absurd (h _ refl)
+    go t (written es l) h e = clash (cc)
+
+-- What is written is the file of the entries that the text says.
+pub said_told : (text before after : List ℕ) (r : Entered) (n : ℕ) → Enters text before r after → r ≡ Written n → (es : List Entry) × Told [] 0 text (said es) × (take n after ≡ file_bytes (file_of es))
+said_told text before after r n w e =
+    let (es, t, z, a) = written_accepted text before after n (subst (λ x. TextReply Refused Written text before x after) e w.reply) in
+    (es, t, z)

@@ -5,9 +5,9 @@ use Prim.Native.Nat.{ℕ, zero, suc, ◌+◌, ◌*◌, ◌/◌, ◌%◌, ◌<◌
 use native.Mathlib.Omega.{arith}
 use native.Mathlib.Decide.{dec_lt}
 use native.Mathlib.Numerals.{add-one}
-use lib.ListN.{length, get_or, take, set, length-append}
-use lib.Seq.{sets, length-sets, take-suc, length-take-le}
-use Rattle.model.proofs.Listed.{sets_append}
+use lib.ListN.{length, get_or, take, drop, set, length-append}
+use lib.Seq.{sets, length-sets, take-suc, length-take-le, take_at}
+use Rattle.model.proofs.Listed.{sets_append, sets_front}
 use Rattle.grammar.specs.Grammar.{decimal}
 use Rattle.grammar.proofs.Numbers.{decimal_one, decimal_more}
 use Rattle.enter.specs.Put.{Put}
@@ -33,6 +33,13 @@ put_kept {text} {before} {at = at} p = ap length p.bytes ∙ length-sets before 
 
 pub put_inside : {text before after : List ℕ} {at r : ℕ} → Put text before at after r → r ≤ length after
 put_inside p = let k = put_kept p in let h = p.room in omega arith
+
+-- What was put at the front.
+pub put_front : {text before after : List ℕ} {r : ℕ} → Put text before 0 after r → take r after ≡ text
+put_front {text} {before} {r = r} p =
+    let e = p.end in
+    let h = p.room in
+    ap (take r) (p.bytes ∙ sets_front text before (omega arith)) ∙ take_at text (drop (length text) before) r (omega arith)
 
 -- One byte more.
 pub sets_next : (before text : List ℕ) (at i : ℕ) → i < length text → set (sets before at (take i text)) (at + i) (get_or text i 0) ≡ sets before at (take (i + 1) text)

@@ -4,8 +4,10 @@
 
 mod refusal;
 
-ghost use Rattle.std.specs.Prelude.{◌≤◌, length};
-ghost use Rattle.enter.specs.Enters.{Filled, Enters};
+ghost use Rattle.std.specs.Prelude.{◌≤◌, length, take, IfSome, OnOk};
+ghost use Rattle.std.specs.Io.KnownBytes.{Appends};
+ghost use Rattle.enter.specs.Enters.{Filled, NextRead, AllRead, Enters, Answers, Does};
+ghost use Rattle.enter.specs.Refusal.{line_of, column_of, refusal_line};
 
 use std::io;
 use std::io::{Read, Write};
@@ -20,7 +22,8 @@ enum Input {
 
 // One read, of at most as many bytes as the buffer holds.
 fn read_some<R: Read>(input: &mut R, rest: &mut [u8]) -> Input
-    ensures { Filled rest.new result }
+    ensures filled { Filled rest.new result }
+    ensures bytes { NextRead (R.remaining input.old) (R.remaining input.new) rest.new result }
 {
     match input.read(rest) {
         Ok(n) => Input::Bytes(n),
@@ -30,7 +33,8 @@ fn read_some<R: Read>(input: &mut R, rest: &mut [u8]) -> Input
 
 // Reads until the buffer is full or the input ends.
 fn read_start<R: Read>(input: &mut R, start: &mut [u8]) -> Input
-    ensures { Filled start.new result }
+    ensures filled { Filled start.new result }
+    ensures bytes { AllRead (R.remaining input.old) (R.remaining input.new) start.new result }
 {
     let mut done: usize = 0;
     while done < start.len() {
@@ -57,6 +61,8 @@ fn file_of(text: &[u8], out: &mut [u8]) -> Entered
 // Tells a refusal, with the line and column of its place.
 fn tell_refusal<W: Write>(text: &[u8], number: u8, place: usize, errors: &mut W) -> io::Result<()>
     requires { length text.now ≤ 65536 }
+    ensures { OnOk result (Appends (W.contents errors.old) (W.contents errors.new)
+        (refusal_line number place (line_of text.now place) (column_of text.now place))) }
 {
     let mut out = [0u8; 128];
     let spot = refusal::spot_of(text, place);
@@ -67,6 +73,7 @@ fn tell_refusal<W: Write>(text: &[u8], number: u8, place: usize, errors: &mut W)
 // Writes the file of a text, in one write where the system takes it whole; or tells why there is none.
 fn enter_text<O: Write, W: Write>(text: &[u8], output: &mut O, errors: &mut W) -> io::Result<()>
     requires { length text.now ≤ 65536 }
+    ensures { OnOk result (Answers text.now (O.contents output.old) (O.contents output.new) (W.contents errors.old) (W.contents errors.new)) }
 {
     let mut out = [0u8; 898];
     let entered = file_of(text, &mut out);
@@ -90,6 +97,7 @@ fn enter_start<O: Write, W: Write>(
     errors: &mut W,
 ) -> io::Result<()>
     requires { n ≤ length start.now }
+    ensures { OnOk result (Does (take n start.now) (O.contents output.old) (O.contents output.new) (W.contents errors.old) (W.contents errors.new)) }
 {
     if 65536 < n {
         return errors.write_all(b"enter: the input is longer than 65536 bytes\n");
@@ -97,14 +105,28 @@ fn enter_start<O: Write, W: Write>(
     enter_text(&start[..n], output, errors)
 }
 
+// Enters what the input gives. What cannot be read or written is told, and returned.
+fn enter<R: Read, O: Write, W: Write>(
+    input: &mut R,
+    output: &mut O,
+    errors: &mut W,
+) -> io::Result<()>
+    ensures { OnOk result (IfSome (R.remaining input.old) (λ bytes.
+        Does bytes (O.contents output.old) (O.contents output.new) (W.contents errors.old) (W.contents errors.new))) }
+{
+    let mut start = [0u8; 65537];
+    let read = read_start(input, &mut start);
+    match read {
+        Input::Bytes(n) => enter_start(&start, n, output, errors),
+        Input::Failed => {
+            errors.write_all(b"enter: the input cannot be read\n")?;
+            Err(io::Error::other("the input cannot be read"))
+        }
+    }
+}
+
 // What failed has been told, so the status is 0 all the same.
 fn main(rt: HostRuntime) {
-    let mut start = [0u8; 65537];
-    let mut errors = rt.stderr();
-    let input = read_start(&mut rt.stdin(), &mut start);
-    let told = match input {
-        Input::Bytes(n) => enter_start(&start, n, &mut rt.stdout(), &mut errors),
-        Input::Failed => Write::write_all(&mut errors, b"enter: the input cannot be read\n"),
-    };
-    let _ = told;
+    let entered = enter(&mut rt.stdin(), &mut rt.stdout(), &mut rt.stderr());
+    let _ = entered;
 }
