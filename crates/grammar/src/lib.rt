@@ -1,4 +1,3 @@
 // Definitions and laws only: see specs/ and proofs/.
 
 #![tactic(auto)]
-
