@@ -1,14 +1,14 @@
 -- The words in which the table and the run of an accepted file lie, and what they say of the table.
-use mathlib.Core.Path.{◌≡◌, refl, sym, ◌∙◌, ap, subst}
+use mathlib.Core.Path.{◌≡◌, refl, ◌∙◌, ap, subst}
 use mathlib.Core.List.{List}
 use Prim.Native.Nat.{ℕ, ◌≤◌, ◌<◌}
 use native.Mathlib.Omega.{arith}
 use native.Mathlib.Decide.{dec_lt}
 use lib.ListN.{length, get_or, get_or-eq_default}
-use Rattle.model.specs.Case.{Cell, AT, VA, Event, MK, File, table_of, Run, run_of, Part, Lower}
+use Rattle.model.specs.Case.{Cell, VA, MK, File, table_of, run_of, Part, Lower}
 use Rattle.model.specs.Format.{read_file, accepted}
 use Rattle.model.specs.Stored.{word_of, aim, event_in, event_word, row, table_in, run_in}
-use Rattle.model.proofs.Accepted.{Bytes, Small, accepted_file, small_file}
+use Rattle.model.proofs.Accepted.{Bytes, accepted_file, small_file}
 use Rattle.model.proofs.Read.{clash}
 use Rattle.model.proofs.Listed.{elem_get_d}
 use Rattle.model.proofs.Rows.{Fits, row_at, table_words, run_words, event_word_lem, past_cells, no_part, cell_fits}

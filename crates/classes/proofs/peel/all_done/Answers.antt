@@ -2,7 +2,7 @@
 use native.Mathlib.Omega.{arith}
 use borrow.Author.Rules.{rules}
 use borrow.Author.Count.{below_more}
-use mathlib.Core.Bool.{true≢false, false≢true}
+use mathlib.Core.Bool.{true≢false}
 use Rattle.theory.specs.Cells.{On}
 use Rattle.classes.proofs.peel.all_done.Goals as goal
 
@@ -12,9 +12,6 @@ loop-c-init c = (search rules, λ i h. absurd (omega arith))
 pub bounds-done-c : goal.bounds-done-c
 bounds-done-c c = omega (arith, c.requires)
 
-pub returns-then-done-c-ne1 : goal.returns-then-done-c-ne1
-returns-then-done-c-ne1 c = record { yes = λ e. absurd (false≢true e); no = λ _. (c.loop-c.c, omega arith, c.if-done-c-ne1.true) }
-
 pub overflow_add-c : goal.overflow_add-c
 overflow_add-c c = omega (arith, c.requires)
 
@@ -22,7 +19,7 @@ pub loop-c-smaller : goal.loop-c-smaller
 loop-c-smaller c = omega arith
 
 pub loop-c-preserved : goal.loop-c-preserved
-loop-c-preserved c = (omega arith, below_more (On c.args.done.now) c.loop-c.c c.loop-c.invariant.1 c.if-done-c-ne1.false)
+loop-c-preserved c = (omega arith, below_more (On c.args.done.now) c.loop-c.c c.loop-c.invariant.1 (search rules))
 
 pub returns : goal.returns
 returns c = record { yes = λ _ i h. c.loop-c.invariant.1 i (omega arith); no = λ e. absurd (true≢false e) }

@@ -2,10 +2,10 @@
 use Prim.Native.Nat.{ℕ, ◌<◌}
 use mathlib.Core.Path.{sym, ◌∙◌, ap, subst}
 use native.Mathlib.Omega.{arith}
+use borrow.Author.Rules.{rules}
 use Rattle.model.specs.Case.{Event}
 use Rattle.model.specs.Stored.{run_in, aim}
 use Rattle.cells.specs.Cells.{as_event}
-use Rattle.knowledge.specs.Knowledge.{Learns}
 use Rattle.knowledge.specs.Heard.{LearntAll}
 use Rattle.knowledge.proofs.HeardLaws.{learnt_none, learnt_make, learnt_learn}
 use Rattle.knowledge.proofs.heard.learnt_before.Goals as goal
@@ -19,7 +19,7 @@ event_at-event-requires c = omega (arith, c.requires.run_words.few)
 
 pub learn-more-requires : goal.learn-more-requires
 learn-more-requires c =
-    let h = subst (λ (v : Event). aim v < c.args.n) (sym c.event_at-event.ensures ∙ ap as_event c.in-Learn.is) (c.requires.run_words.below c.loop-q.q (omega arith)) in record { class_row = c.requires.class_row; mark_row = c.loop-q.invariant.0.marked; c_bound = omega (arith, c.cell.ensures) }
+    let h = subst (λ (v : Event). aim v < c.args.n) (sym c.event_at-event.ensures) (c.requires.run_words.below _ (omega arith)) in record { class_row = c.requires.class_row; mark_row = c.loop-q.invariant.0.marked; c_bound = grind arith }
 
 pub overflow_add-q : goal.overflow_add-q
 overflow_add-q c = omega arith
@@ -33,7 +33,7 @@ loop-q-preserved c =
       elim c.match-event.branch [
         | in-Make w ↦ rw w.seen-is (learnt_make c.requires.class_row c.args.count c.args.run.now c.loop-q.q h c.loop-q.invariant.0 (sym c.event_at-event.ensures ∙ ap as_event w.in-Make.is))
         | in-Learn w ↦ rw w.seen-is (learnt_learn c.requires.class_row c.args.count c.args.run.now c.loop-q.q h c.loop-q.invariant.0 (sym c.event_at-event.ensures ∙ ap as_event w.in-Learn.is)
-            (subst (λ (d : ℕ). Learns c.args.rep.now c.loop-q.seen d w.learn-more.result) w.cell.ensures w.learn-more.ensures))
+            (search rules))
       ],
       omega arith,
     )
