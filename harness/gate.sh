@@ -3,8 +3,8 @@
 # and lines of the program vectors against those that the harness would write. Exit status 0 only if nothing differs; otherwise what differs is printed.
 set -euo pipefail
 cd "$(dirname "$0")"
-(cd .. && rt staticlib prismfleece | tail -n 1)
-PRISMFLEECE_LIB_DIR="$(cd ../target/staticlib && pwd)" cargo build --release --offline --quiet
+(cd ../crates/prismfleece && rt lib | tail -n 1)
+PRISMFLEECE_LIB_DIR="$(cd ../crates/prismfleece/out && pwd)" cargo build --release --offline --quiet
 log=$(mktemp)
 trap 'rm -f "$log"' EXIT
 ./target/release/compare --files "${1:-20000}" >"$log" || { cat "$log"; exit 1; }

@@ -22,7 +22,7 @@ returns-in_default-next c =
 pub returns-then-n-eq0 : goal.returns-then-n-eq0
 returns-then-n-eq0 c =
     number_ends c.args.text.now c.args.at c.args.bound c.loop-c.i c.loop-c.n c.loop-c.invariant.3 _ c.loop-c.invariant.0
-    (digit_is c.args.text.now c.loop-c.i _ c.digit_at-next.ensures _ c.in-Is-next.is) (inl c.if-n-eq0.true)
+    (digit_is c.args.text.now c.loop-c.i _ c.digit_at-next.ensures _ c.in-Is-next.is) (inl (omega (arith, c.if-n-eq0.true)))
 
 pub overflow_mul-more : goal.overflow_mul-more
 overflow_mul-more c = omega (arith, c.loop-c.invariant.0, c.requires.le_bound)
