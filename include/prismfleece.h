@@ -17,8 +17,8 @@
  * Buffers: a pointer with length 0 is neither read nor written through, so it may be null. `out` must share no byte with `file` or `text`; `file` and
  * `list`, which are only read, may overlap.
  *
- * No function allocates, keeps state or calls back; all may be called from several threads at once. The deepest call, a run, takes at most about 210 KB
- * of stack (reckoned; the most that was measured is 50 KB); a text takes at most 170 KB (167,392 bytes measured at 16 nestings).
+ * No function allocates, keeps state or calls back; all may be called from several threads at once. The deepest call, a run, takes at most about 260 KB
+ * of stack (reckoned; the most that was measured is 67 KB); a text takes at most 170 KB (148,912 bytes measured at 16 nestings).
  */
 #ifndef PRISMFLEECE_H
 #define PRISMFLEECE_H
