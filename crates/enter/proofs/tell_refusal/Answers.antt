@@ -3,7 +3,7 @@ use mathlib.Core.Path.{ap, ◌∙◌, subst}
 use Rattle.std.proofs.Common.{OnOk}
 use Rattle.std.specs.Io.KnownBytes.{Appends}
 use Rattle.enter.specs.Refusal.{line_of, refusal_line}
-use Rattle.enter.proofs.PutLaws.{put_front}
+use Rattle.lines.proofs.PutLaws.{put_front}
 use Rattle.enter.proofs.tell_refusal.Goals as goal
 
 pub returns : goal.returns
