@@ -63,11 +63,20 @@ module _ (s : List ℕ) (at d : ℕ) (h : d ≤ 16) where
   unfolding message_says
   variable_done b before v to word p (k, g) put w = (variable v k, variable_reads s at d h v k to (byte_has s at 88 b) (g d h), completes_variable before v (word + v) k p put (ap (λ x. x + v) w))
 
--- The nesting inside.
-pub deeper : (left : ℕ) → 0 < left → left ≤ 17 → 17 - (left - 1) ≡ suc (17 - left)
-deeper left h k = omega arith
+-- With so much nesting still allowed, the nesting here and that of a part.
+module _ (s : List ℕ) (at left : ℕ) (some : 0 < left) (most : left ≤ 17) where
+  abbrev d : ℕ
+  d = 17 - left
 
-module _ (s : List ℕ) (at d k : ℕ) (h : d ≤ 16) (z : k ≡ suc d) where
+  abbrev k : ℕ
+  k = 17 - (left - 1)
+
+  h : d ≤ 16
+  h = omega arith
+
+  z : k ≡ suc d
+  z = omega arith
+
   -- The same of what is found one deeper, at its place.
   list_at : (i j : ℕ) → i ≡ j → (r : Refusal) → Misread (list k) s i r → Misread (list (suc d)) s j r
   list_at i j e r m = subst (λ x. Misread (list x) s j r) z (subst (λ x. Misread (list k) s x r) e m)
