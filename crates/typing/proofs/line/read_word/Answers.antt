@@ -1,5 +1,4 @@
 -- The two words begin with different letters.
-use native.Mathlib.Omega.{arith}
 use Rattle.typing.proofs.WordLaws.{word_learn, word_make, word_stops_learn, word_stops_make}
 use Rattle.typing.proofs.line.read_word.Goals as goal
 
