@@ -9,7 +9,7 @@ use lib.ListN.{length, get_or}
 use Rattle.model.specs.Case.{AT, VA, SE, AP}
 use Rattle.model.specs.Stored.{word_of}
 use Rattle.grammar.specs.Grammar.{Message, atom, variable, apply, seal, group, last, message_says, list_says}
-use Rattle.grammar.specs.Reader.{Phrase, Finds, reads, read, wrong, deep, message, list, joins}
+use Rattle.grammar.specs.Reader.{Phrase, Finds, read, wrong, deep, message, list, joins}
 use Rattle.grammar.proofs.Phrases.{Has, Misses, has_byte, misses_past, misses_other}
 use Rattle.grammar.proofs.ReadMessages.{an_atom, a_variable, an_application, a_seal, a_group, message_none, message_deep, atom_reads, atom_wrong, variable_reads, variable_wrong, group_wrong, group_deep, group_open, group_reads, apply_number, apply_bare, apply_wrong, apply_deep, apply_open, apply_reads, seal_bare, seal_wrong, seal_deep, seal_open, seal_half, seal_key_wrong, seal_key_deep, seal_reads}
 use Rattle.grammar.proofs.ReadLists.{list_wrong, list_deep, list_last, Listing, listing_none, listing_more}
@@ -231,12 +231,6 @@ module _ (s : List ℕ) (at d : ℕ) (before : Store) (i : ℕ) (cells : Store) 
   list_else r m = misread_part (list d) s at (message d) i r m (λ p f. a.listing (wrong p) (list_wrong s d i p f)) (λ p f. a.listing (deep p) (list_deep s d i p f))
 
   module _ (to cell : ℕ) (after : Store) (item : MessageRead s i d cells (Ok (to, cell)) after) where
-    pub item_behind : i ≤ to
-    item_behind = go item.1
-      where
-        go : {m : Message} → Finds (message d) s i (read m to) → i ≤ to
-        go (reads _ _ r h) = omega (arith, r.end)
-
     pub list_done : (p : Put) → PairsUp after items cell p → (Byte s to 44 → ⊥) → ListRead s at d before (Ok (to, p.cell)) p.store
     list_done p pairs n = (
       joins a.messages (last item.0),

@@ -43,10 +43,6 @@ use Rattle.typing.proofs.Trees.{sound_grown, entered_grows, grows_place, sound_r
 use Rattle.typing.proofs.Keys.{key_cell, variable_cell}
 use Rattle.typing.proofs.Variables.{entered_from, grows_new, holds_in, completed_holds}
 
-pub event_added : (lines : Lines) (s : Store) (e : Event) (w : ℕ) → w ≡ event_word (as_event e) →
-    ◌≡◌ {A = Lines} (record { store = s; run = set lines.run lines.events w; events = lines.events + 1 }) (with_event lines s e)
-event_added lines s e w z = ap (λ x. record { store = s; run = set lines.run lines.events x; events = lines.events + 1 }) z
-
 length_map : {A B : Type 0} (f : A → B) (l : List A) → length (map f l) ≡ length l
 length_map f [] = refl
 length_map f (x ∷ l) = (let z = length_map f l in omega arith)

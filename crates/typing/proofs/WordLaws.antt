@@ -30,18 +30,9 @@ module _ (s : List ℕ) (at : ℕ) (w : List ℕ) where
     pub within : at + i ≤ length s
     pub runs : Runs s at (at + i) (nested 0 (take i w))
 
-  pub matching_none : at ≤ length s → Matching 0
-  matching_none h = record { short = omega arith; within = omega arith; runs = word_none s at w }
-
   module _ (i : ℕ) (m : Matching i) where
     pub matching_more : i < length w → Byte s (at + i) (get_or w i 0) → Matching (i + 1)
     matching_more h b = record { short = omega arith; within = omega (arith, b.0); runs = word_more s at w i h m.runs (byte_has s (at + i) (get_or w i 0) b) }
-
-    pub matched_stop : (Byte s (at + i) (get_or w i 0) → ⊥) → Matched s at w i
-    matched_stop n = record { short = m.short; within = m.within; runs = m.runs; stops = λ h. n }
-
-    pub matched_all : length w ≤ i → Matched s at w (length w)
-    matched_all h = (let z : i ≡ length w = omega (arith, m.short) in subst (Matched s at w) z (record { short = m.short; within = m.within; runs = m.runs; stops = λ l. absurd (omega arith) }))
 
 -- ---- words
 
