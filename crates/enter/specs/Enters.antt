@@ -1,19 +1,19 @@
 -- The reply to the text that was read, and what is written of it.
 -- Enters: the reply to a text, with a buffer that is enough; Sends, Answers, Does: what is written.
-use Rattle.std.specs.Prelude.{◌≡◌, List, [], ◌∷◌, ℕ, ◌≤◌, ◌<◌, length, take}
+use Rattle.std.specs.Prelude.{◌≡◌, List, [], ◌∷◌, ℕ, ◌≤◌, ◌<◌, length, take, Result}
 use Rattle.std.specs.Io.KnownBytes.{Keeps, Appends}
 use Rattle.std.specs.declared.option.Option.{Option}
 use Rattle.model.specs.Format.{file_bytes}
 use Rattle.grammar.specs.Filed.{file_of}
 use Rattle.grammar.specs.Text.{Outcome, refused, said, Told, TextReply}
-use Rattle.typing.specs.declared.Entered.{Entered}
+use Rattle.refusals.specs.declared.Refusal.{Refusal}
 use Rattle.typing.specs.Reply.{Refused, Written}
 use Rattle.enter.specs.Refusal.{line_of, column_of, refusal_line}
 
 -- ---- the reply
 
 -- The reply to a text, the file written lies within the buffer, and no file is too long for it.
-pub record Enters (text before : List ℕ) (r : Entered) (after : List ℕ) : Type 0 where
+pub record Enters (text before : List ℕ) (r : Result ℕ Refusal) (after : List ℕ) : Type 0 where
   pub reply : TextReply Refused Written text before r after
   pub inside : (n : ℕ) → r ≡ Written n → n ≤ length after
   pub enough : (n : ℕ) → r ≡ Refused 9 n → ⊥

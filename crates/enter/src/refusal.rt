@@ -1,9 +1,11 @@
 // A refusal as a line of text, with the line and column of its place.
 ghost use Rattle.std.specs.Prelude.{◌≡◌, cond, ◌+◌, ◌≤◌, eqb, length};
+ghost use Rattle.refusals.specs.Numbers.{number_of};
 ghost use Rattle.lines.specs.Put.{Put};
 ghost use Rattle.enter.specs.Refusal.{line_of, column_of, refusal_line};
 
 use lines::{put_text, put_told};
+use refusals::Refusal;
 
 // A line and a column, from 1.
 #[derive(Drop)]
@@ -45,12 +47,13 @@ pub fn spot_of(text: &[u8], place: usize) -> Spot
 }
 
 // Puts the line of a refusal at the front.
-pub fn lay_refusal(number: u8, place: usize, spot: Spot, out: &mut [u8]) -> usize
+pub fn lay_refusal(refusal: Refusal, spot: Spot, out: &mut [u8]) -> usize
     requires { 128 ≤ length out.old }
-    ensures { Put (refusal_line number place spot.line spot.column) out.old 0 out.new result }
+    ensures { Put (refusal_line (number_of refusal.fault) refusal.place spot.line spot.column) out.old 0 out.new result }
 {
+    let number = refusal.fault.number();
     let numbered = put_told(b"refused ", number as usize, 0, out);
-    let placed = put_told(b" at ", place, numbered, out);
+    let placed = put_told(b" at ", refusal.place, numbered, out);
     let lined = put_told(b", line ", spot.line, placed, out);
     let columned = put_told(b", column ", spot.column, lined, out);
     put_text(b"\n", columned, out)
