@@ -16,9 +16,6 @@ returns-then-not-s c =
       fewer = λ e. absurd (true≢false (sym e ∙ bad));
     }
 
-pub acyclic-ok-requires : goal.acyclic-ok-requires
-acyclic-ok-requires c = record { table_words = c.requires.table_words; kept = c.settle-s.ensures.kept (not-false _ c.if-not-s.false) }
-
 pub returns : goal.returns
 returns c =
     let good : c.settle-s.result.ok ≡ true = not-false _ c.if-not-s.false in

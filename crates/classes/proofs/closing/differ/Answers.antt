@@ -13,9 +13,6 @@ returns-then-r-c c =
     let cls = class_at c.args.rep.now in
     λ s. subst (λ d. Alike cls (T c.args.c) (T d)) (sym c.if-r-c.true ∙ c.class_of-r.ensures) (alike_self (T c.args.c) s)
 
-pub returns-then-is_variable : goal.returns-then-is_variable
-returns-then-is_variable c = λ s. absurd (s (c.is_variable.ensures.yes c.if-is_variable.true))
-
 pub returns : goal.returns
 returns c =
     told_asks c.requires.table_words c.requires.kept c.args.c (c.is_variable.ensures.no c.if-is_variable.false) c.compare.result

@@ -7,14 +7,8 @@ use Prim.Native.Nat.{ℕ}
 use Rattle.model.specs.Stored.{table_in}
 use Rattle.theory.specs.Cells.{class_at}
 use Rattle.theory.specs.Classes.{Closed}
-use Rattle.classes.proofs.SettleLaws.{stage_none, stage_more, shut_closed}
+use Rattle.classes.proofs.SettleLaws.{stage_more, shut_closed}
 use Rattle.classes.proofs.closing.settle.Goals as goal
-
-pub loop-s-init : goal.loop-s-init
-loop-s-init c = stage_none c.requires.kept
-
-pub bind_all-s-requires : goal.bind_all-s-requires
-bind_all-s-requires c = record { table_words = c.requires.table_words; kept = c.loop-s.invariant.holds }
 
 pub returns-then-not-s : goal.returns-then-not-s
 returns-then-not-s c =
@@ -41,9 +35,6 @@ returns-then-not-s-2 c =
       sat = λ _. stage.sat;
       most = λ _. stage.most;
     }
-
-pub loop-s-smaller : goal.loop-s-smaller
-loop-s-smaller c = (c.bind_all-s.ensures.yes (not-false _ c.if-not-s.false)).fewer (not-false _ c.if-not-s-2.false)
 
 pub loop-s-preserved : goal.loop-s-preserved
 loop-s-preserved c = stage_more c.loop-s.invariant (c.bind_all-s.ensures.yes (not-false _ c.if-not-s.false))

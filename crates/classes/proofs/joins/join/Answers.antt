@@ -2,13 +2,8 @@
 use mathlib.Core.Path.{◌≡◌, sym, ◌∙◌}
 use Rattle.model.specs.Stored.{table_in}
 use Rattle.theory.specs.Cells.{class_at}
-use Rattle.classes.proofs.JoinLaws.{join_same, join_relabel, joined_sym}
+use Rattle.classes.proofs.JoinLaws.{join_relabel, joined_sym}
 use Rattle.classes.proofs.joins.join.Goals as goal
-
-pub returns-then-x-y : goal.returns-then-x-y
-returns-then-x-y c =
-    join_same c.args.n (table_in c.args.table.now) c.args.rep c.requires.table_words.few c.requires.kept c.args.a c.args.b
-    (sym c.class_byte-x.ensures ∙ c.if-x-y.true ∙ c.class_byte-y.ensures)
 
 pub returns-then-stands : goal.returns-then-stands
 returns-then-stands c =

@@ -1,5 +1,5 @@
 -- Each sweep that changes something marks a cell more; when none does, ranks of all cells, or a cell that is not marked, give the answer.
-use borrow.Author.Tests.{not-true, not-false}
+use borrow.Author.Tests.{not-true}
 use mathlib.Core.Path.{◌≡◌}
 use mathlib.Core.Bool.{false}
 use Rattle.classes.proofs.PeelLaws.{peeled_none, peeled_finite, peeled_round, peeled_endless}
@@ -7,12 +7,6 @@ use Rattle.classes.proofs.peel.acyclic.Goals as goal
 
 pub loop-rep-init : goal.loop-rep-init
 loop-rep-init c = peeled_none _
-
-pub peel-p-requires : goal.peel-p-requires
-peel-p-requires c = record { table_words = c.requires.table_words; peeled = c.loop-rep.invariant }
-
-pub all_done-requires : goal.all_done-requires
-all_done-requires c = c.requires.table_words.few
 
 pub returns-then-not-p : goal.returns-then-not-p
 returns-then-not-p c =
@@ -23,9 +17,3 @@ returns-then-not-p c =
         peeled_endless c.requires.table_words c.requires.kept c.peel-p.result.done (c.peel-p.ensures.shut quiet) x h ne,
       ));
     }
-
-pub loop-rep-smaller : goal.loop-rep-smaller
-loop-rep-smaller c = c.peel-p.ensures.fewer (not-false _ c.if-not-p.false)
-
-pub loop-rep-preserved : goal.loop-rep-preserved
-loop-rep-preserved c = c.peel-p.ensures.peeled

@@ -1,19 +1,15 @@
 -- One law for each number of parts of the cell that stands for the class.
 use mathlib.Core.Path.{sym, ◌∙◌}
-use mathlib.Core.Bool.{true≢false, false≢true}
+use mathlib.Core.Bool.{false≢true}
 use borrow.Author.Tests.{eqb-true, eqb-false}
 use Rattle.model.specs.Stored.{table_in}
 use Rattle.classes.specs.Peel.{class_table}
-use Rattle.classes.proofs.PeelLaws.{parts_read, done_none, done_one, done_two}
+use Rattle.classes.proofs.PeelLaws.{parts_read, done_one, done_two}
 use Rattle.classes.proofs.peel.ready.Goals as goal
 
 pub returns-then-not-marked : goal.returns-then-not-marked
 returns-then-not-marked c =
     let T = table_in c.args.table.now in let k = class_table T c.args.rep.now c.args.c in let e = parts_read T c.in-Two.is c.parts_of-parts.ensures c.cell_at.ensures c.class_of.ensures in record { yes = λ x. absurd (false≢true x); no = λ _ d. eqb-false _ _ (sym c.marked-in-Two.ensures ∙ c.if-not-marked.true) ((done_two c.args.done.now k _ _ e).1 d).1 }
-
-pub returns-in-None : goal.returns-in-None
-returns-in-None c =
-    let T = table_in c.args.table.now in let k = class_table T c.args.rep.now c.args.c in let e = parts_read T c.in-None.is c.parts_of-parts.ensures c.cell_at.ensures c.class_of.ensures in record { yes = λ _. done_none c.args.done.now k e; no = λ x. absurd (true≢false x) }
 
 pub returns-in-One : goal.returns-in-One
 returns-in-One c =

@@ -1,13 +1,7 @@
 -- One law for each kind.
-use mathlib.Core.Path.{◌≡◌, sym, ◌∙◌}
-use native.Mathlib.Omega.{arith}
 use Rattle.theory.specs.Cells.{class_at}
-use Rattle.cells.proofs.CellLaws.{word_variable}
 use Rattle.classes.proofs.WordLaws.{word_name, word_free, word_pair, word_seal, word_apply}
 use Rattle.classes.proofs.twins.class_word.Goals as goal
-
-pub overflow_add-result : goal.overflow_add-result
-overflow_add-result c = let z : c.word_of-in-Variable.result ≡ 65536 = c.word_of-in-Variable.ensures ∙ sym (word_variable c.in-Variable.is) in omega arith
 
 pub returns-in-Atom : goal.returns-in-Atom
 returns-in-Atom c = word_name (class_at c.args.rep.now) c.args.c c.in-Atom.is c.word_of.ensures

@@ -12,20 +12,12 @@ returns-then-not-has_parts c = meets_plain c.requires.solved c.requires.downward
 pub returns-then-class_of-i : goal.returns-then-class_of-i
 returns-then-class_of-i c = meets_under c.requires.solved c.requires.downward (λ e. c.if-class_of-i.true (c.class_of.ensures ∙ e))
 
-pub fellow-t-requires : goal.fellow-t-requires
-fellow-t-requires c =
-    record { table_words = c.requires.table_words; by_index = c.requires.downward.lower; top_le_c = (c.requires.downward.below c.key_of-h.result, c.requires.c_lt_n) }
-
 pub returns-then-t-c : goal.returns-then-t-c
 returns-then-t-c c =
     meets_link c.requires.solved c.requires.downward c.key_of-h.result c.fellow-t.ensures (sym c.class_of.ensures ∙ c.if-class_of-i.false)
     (c.key_of-h.ensures ∙ ap (key_of (class_at c.args.rep.now)) c.cell_at-k.ensures)
     (subst Parted c.cell_at-k.ensures (c.has_parts.ensures.yes c.if-not-has_parts.false)) c.key_of-h.type_inv
     (omega (arith, c.requires.table_words.few, c.requires.c_lt_n)) c.if-t-c.true
-
-pub join-joined-requires : goal.join-joined-requires
-join-joined-requires c =
-    record { table_words = c.requires.table_words; kept = c.requires.solved.kept; a_lt_n = (omega (arith, c.fellow-t.ensures.low, c.requires.c_lt_n), c.requires.c_lt_n) }
 
 pub returns : goal.returns
 returns c =
