@@ -34,12 +34,6 @@ pub parts_read : (T : Table) {p p' : Parts} {k : Cell} {x y : ℕ} → p ≡ p' 
 parts_read T e i j z = sym e ∙ i ∙ ap parts_of (j ∙ ap T z)
 
 module _ (marks : List ℕ) where
-  pub done_none : (k : Cell) → parts.None ≡ parts_of k → Done marks k
-  done_none (AT n) e d p = elim p [ ]
-  done_none VA e d p = elim p [ ]
-  done_none (ONE g a) e d p = clash (cc)
-  done_none (TWO h l r) e d p = clash (cc)
-
   pub done_one : (k : Cell) (a : ℕ) → parts.One a ≡ parts_of k → On marks a ↔ Done marks k
   done_one (AT n) a e = clash (cc)
   done_one VA a e = clash (cc)
@@ -117,9 +111,6 @@ peeled_none S =
 
 -- ---- the turns of a sweep
 module _ (S : Table) (marks : List ℕ) where
-  pub peels_none : Peeled S marks → Peels S marks 0 marks false
-  peels_none P = record { peeled = P; most = omega arith; fewer = λ e. absurd (false≢true e); shut = λ e c h. absurd (omega arith) }
-
   module _ (c : ℕ) (out : List ℕ) (changed : Bool) (w : Peels S marks c out changed) (small : c < 129) where
     pub peels_mark : Fresh S out c true → Peels S marks (c + 1) (set out c 1) true
     peels_mark f =

@@ -6,12 +6,7 @@ use Rattle.classes.specs.Settle.{Asks}
 use Rattle.classes.proofs.SettleLaws.{moved_join}
 use Rattle.classes.proofs.closing.bind.Goals as goal
 
-pub returns : goal.returns
-returns c =
-    let T = table_in c.args.table.now in
-    let asks : Asks c.args.n T c.args.rep.now c.args.c (Parts c.in-Parts.x c.in-Parts.y) = rw c.in-Parts.is at c.differ-d.ensures in
-    record {
-      no = λ e. absurd (true≢false e);
-      yes = λ _. moved_join c.join-joined.ensures c.join-joined.ensures.kept asks.2 asks.3;
-      shut = λ _ e. absurd (true≢false e);
-    }
+pub returns-in-Parts : goal.returns-in-Parts
+returns-in-Parts c =
+    let asks : Asks c.args.n (table_in c.args.table.now) c.args.rep.now c.args.c (Parts c.in-Parts.x c.in-Parts.y) = rw c.in-Parts.is at c.differ.ensures in
+    (moved_join c.join.ensures c.join.ensures.kept asks.2 asks.3, λ e. absurd (true≢false e))
