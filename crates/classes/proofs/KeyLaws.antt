@@ -5,12 +5,10 @@ use Rattle.model.specs.Case as case
 use Rattle.model.specs.Case.{AT, VA, ONE, TWO}
 use Rattle.model.proofs.Read.{clash}
 use Rattle.theory.specs.Classes.{Alike, atoms, ones, twos}
-use Rattle.cells.specs.Cells.{as_cell, parts_of}
-use Rattle.cells.specs.declared.Cell.{Cell}
-use Rattle.cells.specs.declared.Cell.TheVariants as cell
+use Rattle.cells.specs.Cells.{parts_of}
 use Rattle.cells.specs.declared.Parts.{Parts}
 use Rattle.cells.specs.declared.Parts.TheVariants as parts
-use Rattle.classes.specs.Links.{mix_of, key_of, Parted, one, two}
+use Rattle.classes.specs.Links.{key_of, Parted, one, two}
 
 pub alike_key : {cls : ℕ → ℕ} {k k' : case.Cell} → Alike cls k k' → key_of cls k ≡ key_of cls k'
 unfolding key_of

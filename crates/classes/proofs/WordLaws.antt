@@ -10,15 +10,12 @@ use lib.Seq.{get_or-set_same, get_or-set_other}
 use Rattle.model.specs.Message.{App}
 use Rattle.model.specs.Case as case
 use Rattle.model.specs.Case.{AT, VA, ONE, TWO, Table, Part, in_arg, in_left, in_right, Lower}
-use Rattle.model.specs.Stored.{cell_at, cell_in, table_in, word_of}
+use Rattle.model.specs.Stored.{cell_at, cell_in, table_in}
 use Rattle.model.proofs.Finite.{eq?}
 use Rattle.model.proofs.Read.{var?}
 use Rattle.model.proofs.Rows.{Fits, word_cell, cell_word, table_at, table_past}
 use Rattle.theory.specs.Classes.{Likes, Alike, atoms, ones, twos}
 use Rattle.theory.proofs.Classes.{alike_sym, alike_solid}
-use Rattle.cells.specs.Cells.{as_cell}
-use Rattle.cells.specs.declared.Cell.{Cell}
-use Rattle.cells.specs.declared.Cell.TheVariants as cell
 use Rattle.classes.specs.Twins.{class_word, Worded, Earliest, First, Twin}
 
 -- ---- the bytes of a table's cells are bytes

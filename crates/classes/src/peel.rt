@@ -18,6 +18,7 @@ fn marked(marks: &Row, c: u8) -> bool
 }
 
 // Whether the parts of the cell that stands for the class of c are all marked.
+#[tactic(auto, using(crate::proofs::PeelLaws::part_arg, crate::proofs::PeelLaws::part_left, crate::proofs::PeelLaws::part_right))]
 fn ready(table: &Table, rep: &Row, done: &Row, c: u8) -> bool
     requires { length done.now ≡ 129 }
     ensures yes { result ≡ true → Done done.now (class_table (table_in table.now) rep.now c) }

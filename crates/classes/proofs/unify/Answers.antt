@@ -16,10 +16,10 @@ returns c = elim c.if-s.branch [
         fewer = λ _ ne. omega (arith, c.settle-s.ensures.most good, c.join.ensures.fewer ne);
       })
   | else-s w ↦ rw (w.result-is, w.if-s.false) (record {
-      no = λ _ m mr s e. c.settle-s.ensures.no w.if-s.false m mr ((c.join.ensures.sat m).1 (s, e));
-      solved = λ e. absurd (false≢true e);
-      sat = λ e. absurd (false≢true e);
-      most = λ e. absurd (false≢true e);
-      fewer = λ e. absurd (false≢true e);
-    })
+    no = λ _ m mr s e. c.settle-s.ensures.no w.if-s.false m mr ((c.join.ensures.sat m).1 (s, e));
+    solved = λ e. absurd (false≢true e);
+    sat = λ e. absurd (false≢true e);
+    most = λ e. absurd (false≢true e);
+    fewer = λ e. absurd (false≢true e);
+  })
 ]

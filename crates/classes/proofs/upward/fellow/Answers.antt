@@ -1,7 +1,6 @@
 -- The loop's invariant: best is c or a fellow, and if the links are right, no cell that they have led past is a lower one.
 use native.Mathlib.Omega.{arith}
 use borrow.Author.Rules.{rules}
-use Prim.Native.Nat.{◌-◌}
 use Rattle.classes.proofs.LinkLaws.{walk_start, walk_take, walk_skip}
 use Rattle.classes.proofs.upward.fellow.Goals as goal
 
@@ -10,8 +9,7 @@ loop-at-init c = (c.requires.top_le_c.0, search rules, λ h. absurd (omega arith
 
 pub loop-at-preserved-then-is_fellow : goal.loop-at-preserved-then-is_fellow
 loop-at-preserved-then-is_fellow c =
-    let less = c.requires.by_index c.from-i.result in
-    (
+    let less = c.requires.by_index c.from-i.result in (
       omega arith,
       omega arith,
       λ _. rw (c.from.ensures, c.from-i.ensures) at (c.is_fellow.ensures.yes c.if-is_fellow.true),
