@@ -3,7 +3,6 @@ use mathlib.Core.Path.{sym, ◌∙◌, ap, subst}
 use Prim.Native.Nat.{◌+◌}
 use native.Mathlib.Omega.{arith}
 use Rattle.model.specs.Stored.{table_in, run_in, aim}
-use Rattle.wants.proofs.StartLaws.{fewer_events}
 use Rattle.knowledge.proofs.ClassRows.{kept_row}
 use Rattle.granting.proofs.GrantLaws.{still_whole}
 use Rattle.solving.specs.Plans.{StageRows, Staged}
@@ -13,9 +12,6 @@ use Rattle.solving.proofs.plan.make.Goals as goal
 pub opened-o-requires : goal.opened-o-requires
 opened-o-requires c =
     record { table_words = c.requires.table_words; class_row = kept_row c.requires.table_words c.requires.solved.kept; mark_row = c.requires.stage_rows.seen; mark_row_2 = c.requires.stage_rows.built }
-
-pub event_at-requires : goal.event_at-requires
-event_at-requires c = omega (arith, c.requires.run_words.few)
 
 pub has-requires : goal.has-requires
 has-requires c =
@@ -29,10 +25,6 @@ returns-then-has c =
       made = λ count x at v. subst (Staged (table_in c.args.table.now) c.args.n (run_in count c.args.run.now) c.args.rep.now (c.args.p + 1)) (sym c.renewed.ensures)
           (staged_built c.requires.table_words c.requires.solved count c.args.p c.args.run.now (c.aim_of.ensures ∙ ap aim c.event_at.ensures) at v c.opened-o.ensures (c.has.ensures.yes c.if-has.true));
     }
-
-pub granted-g-requires : goal.granted-g-requires
-granted-g-requires c =
-    record { table_words = c.requires.table_words; kept = c.requires.solved.kept; run_words = fewer_events c.requires.run_words (omega arith); grant_rows = c.requires.stage_rows.grant }
 
 pub choose-x-requires : goal.choose-x-requires
 choose-x-requires c =
