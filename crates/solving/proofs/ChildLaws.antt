@@ -14,7 +14,6 @@ use Rattle.classes.specs.Kept.{Never}
 use Rattle.classes.specs.Settle.{Unifies}
 use Rattle.classes.specs.Upward.{Raised}
 use Rattle.granting.specs.declared.Place.{Place}
-use Rattle.solving.specs.declared.search.Child.{Child}
 use Rattle.solving.specs.Pairs.{Pairs, place, NextPair, Joined, ChildOf}
 
 -- ---- one pair
@@ -37,9 +36,6 @@ module _ (T : Table) (n : ℕ) (rep want bare : List ℕ) where
   Failed from to = (c d : ℕ) → c < n → d < n → from ≤ place c d → place c d < to → Pairs T rep want bare c d → Never T (class_at rep) c d
 
   module _ (few : n ≤ 128) (from : ℕ) where
-    pub failed_none : Failed from from
-    failed_none c d h g l u = absurd (omega arith)
-
     module _ (c d : ℕ) (old : Failed from (place c d)) where
       pub child_none : NextPair T n rep want bare (place c d) None → ChildOf T n rep want bare from None
       child_none nothing = record {

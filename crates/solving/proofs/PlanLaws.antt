@@ -1,6 +1,6 @@
 -- The marks as the run goes on, what is tried at a step, and the plan of a step.
 use mathlib.Core.Path.{◌≡◌, refl, sym, ◌∙◌, ap, subst}
-use mathlib.Core.Bool.{Bool, true, false, true≢false}
+use mathlib.Core.Bool.{true≢false}
 use mathlib.Core.List.{List}
 use mathlib.Core.Option.{some}
 use Prim.Native.Nat.{ℕ, ◌+◌, ◌<◌}
@@ -20,7 +20,7 @@ use Rattle.theory.proofs.Rows.{rows_formed}
 use Rattle.theory.proofs.Sweep.{On as sideOn, opening_class, mark_later, mark_least}
 use Rattle.classes.specs.Kept.{Kept, Solved}
 use Rattle.classes.proofs.SolvedLaws.{solved_state}
-use Rattle.knowledge.specs.Knowledge.{ClassRow, MarkRow, Starts, Opened}
+use Rattle.knowledge.specs.Knowledge.{ClassRow, MarkRow, Starts}
 use Rattle.knowledge.specs.Sweeps.{OwnMarks}
 use Rattle.knowledge.specs.declared.Marks.{Marks}
 use Rattle.knowledge.proofs.ClassRows.{kept_row}
@@ -92,18 +92,6 @@ module _ {T : Table} {n : ℕ} {rep : List ℕ} (w : ClassRow n rep) {ev : Run} 
       seen_marked = x.seen_marked;
       built_marked = x.built_marked;
     }
-
--- Marks that are found, or were.
-pub reopened_found : {T : Table} {rep seens builts : List ℕ} {fresh : Bool} {r : Marks} → fresh ≡ false → Opened T rep seens r → Reopened T rep fresh seens builts r
-reopened_found e o = record {
-  seen_marked = o.seen_marked;
-  built_marked = o.built_marked;
-  exact = λ ev p st _. record { seen = o.seen ev p st; built = o.built ev p st; seen_marked = o.seen_marked; built_marked = o.built_marked };
-}
-
-pub reopened_fresh : {T : Table} {rep seens builts : List ℕ} {fresh : Bool} → fresh ≡ true → MarkRow rep seens → MarkRow rep builts →
-    Reopened T rep fresh seens builts (record { seen = seens; built = builts })
-reopened_fresh e u v = record { seen_marked = u; built_marked = v; exact = λ ev p st x. x e }
 
 -- What is to be made stands for its class, and is a cell of the table.
 pub lacking_goal : {n : ℕ} {T : Table} {rep builts : List ℕ} {t : ℕ} → Kept n T rep → (x : ℕ) → t ≡ class_at rep x → x < n → (On builts t → ⊥) → Lacking n rep builts t
@@ -189,11 +177,7 @@ module _ (T : Table) (rep : List ℕ) (ev : Run) where
     planned_tries w t {r} (Better.old e) = record { ready = tt; tries = (subst (Planned T ev rep p) e w).tries }
     planned_tries w t {r} (Better.new e) = record { ready = tt; tries = subst (λ y. Tries T ev rep y.want y.bare) (sym e) t }
 
--- A plan of all positions of the run.
-pub planned_all : (T : Table) (rep : List ℕ) (count : ℕ) (run : List ℕ) (pl : Option Choice) → Planned T (run_in count run) rep count pl → Plans T (run_in count run) rep pl
-planned_all T rep count run None w = record { ready = λ q t i. w.ready q t (run_below count run q i) i; tries = tt }
-planned_all T rep count run (Some x) w = record { ready = tt; tries = w.tries }
-
+-- A plan that is taken before the last position.
 pub planned_enough : {T : Table} {rep : List ℕ} {event : Run} {p : ℕ} (pl : Option Choice) (x : Choice) → pl ≡ Some x → Planned T event rep p pl → Plans T event rep pl
 planned_enough None x e w = clash (cc)
 planned_enough (Some y) x e w = record { ready = tt; tries = w.tries }
@@ -278,10 +262,6 @@ with_best j r = record { fresh = j.fresh; dead = j.dead; marks = j.marks; grant 
 pub staged_dead : {T : Table} {n p d : ℕ} {ev : Run} {rep : List ℕ} {st : Stage} → Staged T n ev rep p st →
     Staged T n ev rep p (record { fresh = st.fresh; dead = d; marks = st.marks; grant = st.grant; best = st.best })
 staged_dead v = record { starts = v.starts; exact = v.exact; heard = v.heard; zero = v.zero; own = v.own; kept = v.kept; planned = v.planned }
-
-pub rows_dead : {T : Table} {n d : ℕ} {rep run : List ℕ} {st : Stage} → StageRows T n rep run st →
-    StageRows T n rep run (record { fresh = st.fresh; dead = d; marks = st.marks; grant = st.grant; best = st.best })
-rows_dead v = record { seen = v.seen; built = v.built; grant = v.grant }
 
 -- The rows of a first stage, of one whose marks are found, and of what is granted after an MK.
 pub rows_first : {T : Table} {n : ℕ} {rep run own : List ℕ} {st : Stage} → FirstStage own st → MarkRow rep own → StageRows T n rep run st

@@ -34,9 +34,6 @@ module _ (T : Table) (n : ℕ) (ev : Run) (rep want bare : List ℕ) where
   abbrev pub Tried : ℕ → Type 0
   Tried to = (c d : ℕ) → c < n → d < n → place c d < to → Pairs T rep want bare c d → NoneWith T ev (class_at rep) c d
 
-  pub tried_none : Tried (place 0 0)
-  tried_none c d h g l = absurd (omega arith)
-
   module _ (c d : ℕ) (old : Tried (place c d)) where
     pub tried_next : {h : Child} → ChildOf T n rep want bare (place c d) (Some h) → None T ev (class_at h.rep) → Tried (place h.after.c h.after.d)
     tried_next w no_one i j hi hj l p = elim (dec_lt (place i j) (place c d)) [
@@ -76,9 +73,6 @@ module _ (T : Table) (n : ℕ) (ev : Run) (rep want bare : List ℕ) where
 module _ {n : ℕ} {words rep : List ℕ} (w : TableWords n words) (ev : Run) (s : Solved n (table_in words) rep) where
   abbrev T : Table
   T = table_in words
-
-  pub searched_yes : Plans T ev rep option.None → Searched T n ev rep (Some rep)
-  searched_yes p = record { solved = s; ready = p.ready; none = tt }
 
   pub searched_no : WellFormed T ev → (pl : Choice) → Plans T ev rep (Some pl) →
       ((i j : ℕ) → i < n → j < n → Pairs T rep pl.trial.want pl.trial.bare i j → NoneWith T ev (class_at rep) i j) → Searched T n ev rep option.None

@@ -59,13 +59,11 @@ fn live_row(
     requires kept { Kept n (table_in table.now) rep.now }
     requires c_lt_n { c < n }
 {
-    let mut k = 0;
-    for d in 0..n {
-        if pairing(table, rep, want, bare, c, d) && !clash(table, n, rep, c as u8, d as u8, 3) {
-            k += 1;
-        }
-    }
-    k
+    (0..n)
+        .filter(|d| {
+            pairing(table, rep, want, bare, c, *d) && !clash(table, n, rep, c as u8, *d as u8, 3)
+        })
+        .count() as u8
 }
 
 // A guide: the number of such pairs, up to 254.
