@@ -10,18 +10,6 @@ use Rattle.reducing.proofs.height.heights.Goals as goal
 pub loop-c-init : goal.loop-c-init
 loop-c-init c = (omega arith, climbed_start (table_in c.args.table.now))
 
-pub height_of-requires : goal.height_of-requires
-height_of-requires c = λ d. (omega (arith, c.requires.few, c.loop-c.invariant.1.low d))
-
-pub bounds-high-c : goal.bounds-high-c
-bounds-high-c c = (omega (arith, c.requires.few, c.loop-c.invariant.1.size))
-
-pub overflow_add-c : goal.overflow_add-c
-overflow_add-c c = omega (arith, c.requires.few)
-
-pub loop-c-smaller : goal.loop-c-smaller
-loop-c-smaller c = omega arith
-
 pub loop-c-preserved : goal.loop-c-preserved
 loop-c-preserved c = (
   omega arith,

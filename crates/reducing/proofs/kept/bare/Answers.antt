@@ -1,29 +1,16 @@
 -- The marks below c are exact, and each turn tells one cell more.
 use Prim.Native.Nat.{ℕ}
-use mathlib.Core.Path.{◌≡◌, subst}
+use mathlib.Core.Path.{subst}
 use native.Mathlib.Omega.{arith}
 use Rattle.model.specs.Stored.{table_in}
 use Rattle.theory.specs.Decides.{Decides}
-use Rattle.reducing.specs.Bare.{IsBare, Bares}
+use Rattle.reducing.specs.Bare.{IsBare}
 use Rattle.reducing.proofs.MarkLaws.{marks_none, marks_yes, marks_no}
-use Rattle.reducing.proofs.PartLaws.{low_at}
 use Rattle.reducing.proofs.kept.bare.Goals as goal
 use Rattle.reducing.proofs.kept.bare.Goals.{then-is_bare, else-is_bare}
 
 pub loop-c-init : goal.loop-c-init
 loop-c-init c = (omega arith, marks_none (λ i. IsBare c.args.rep.now c.args.built.now i (table_in c.args.table.now i)))
-
-pub is_bare-requires : goal.is_bare-requires
-is_bare-requires c = (c.requires.classes, low_at c.requires.rows c.loop-c.c c.cell_at.ensures, omega (arith, c.requires.rows.few))
-
-pub bounds-marks-c : goal.bounds-marks-c
-bounds-marks-c c = omega (arith, c.requires.rows.few)
-
-pub overflow_add-c : goal.overflow_add-c
-overflow_add-c c = omega (arith, c.requires.rows.few)
-
-pub loop-c-smaller : goal.loop-c-smaller
-loop-c-smaller c = omega arith
 
 pub loop-c-preserved : goal.loop-c-preserved
 loop-c-preserved c =
@@ -36,8 +23,3 @@ loop-c-preserved c =
         | else-is_bare w ↦ rw w.marks-is (marks_no P x c.loop-c.marks c.loop-c.invariant.1 (tells.no w.if-is_bare.false))
       ],
     )
-
-pub returns : goal.returns
-returns c =
-    let z : c.loop-c.c ≡ c.args.n = omega arith in
-    subst (λ n. Bares (table_in c.args.table.now) c.args.rep.now c.args.built.now n c.loop-c.marks) z c.loop-c.invariant.1

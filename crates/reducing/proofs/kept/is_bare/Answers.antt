@@ -2,16 +2,8 @@
 use mathlib.Core.Path.{◌≡◌, sym, ◌∙◌, subst}
 use native.Mathlib.Omega.{arith}
 use Rattle.theory.specs.Cells.{On}
-use Rattle.theory.proofs.Decides.{decides_no, decides_not, decides_iff}
+use Rattle.theory.proofs.Decides.{decides_not, decides_iff}
 use Rattle.reducing.proofs.kept.is_bare.Goals as goal
-
-pub returns-then-z-c : goal.returns-then-z-c
-returns-then-z-c c = decides_no (λ (e, b, i). let own = c.class_of-z.ensures ∙ e in omega (arith, c.if-z-c.true))
-
-pub returns-then-built-z-ne1 : goal.returns-then-built-z-ne1
-returns-then-built-z-ne1 c =
-    decides_no (λ (e, b, i).
-    c.if-built-z-ne1.true (subst (On c.args.built.now) (sym (c.class_of-z.ensures ∙ e)) b))
 
 pub returns : goal.returns
 returns c =

@@ -3,7 +3,7 @@ use native.Mathlib.Omega.{arith}
 use Rattle.theory.proofs.Decides.{decides_no}
 use Rattle.reducing.specs.Bare.{BuiltClass}
 use Rattle.reducing.proofs.PartLaws.{low_made_one, low_made_two}
-use Rattle.reducing.proofs.IdleLaws.{idle_none, idle_one, idle_right, idle_two}
+use Rattle.reducing.proofs.IdleLaws.{idle_one, idle_right, idle_two}
 use Rattle.reducing.proofs.kept.is_idle.Goals as goal
 
 pub has-requires : goal.has-requires
@@ -17,9 +17,6 @@ returns-then-not-has c = decides_no (idle_right (BuiltClass c.args.rep.now c.arg
 
 pub has-requires-in-Two-2 : goal.has-requires-in-Two-2
 has-requires-in-Two-2 c = record { class_row = c.requires.0; x_bound = (low_made_two c.requires.1 c.in-Two.is c.made_of-made.ensures).0 }
-
-pub returns-in-None : goal.returns-in-None
-returns-in-None c = idle_none (BuiltClass c.args.rep.now c.args.built.now) c.in-None.is c.made_of-made.ensures c.is_own.ensures
 
 pub returns-in-One : goal.returns-in-One
 returns-in-One c = idle_one (BuiltClass c.args.rep.now c.args.built.now) c.in-One.is c.made_of-made.ensures c.has.ensures

@@ -5,7 +5,7 @@ use Rattle.theory.specs.Cells.{class_at}
 use Rattle.cells.specs.Cells.{as_cell}
 use Rattle.reducing.specs.Bare.{Adds}
 use Rattle.reducing.proofs.PartLaws.{low_one, low_two}
-use Rattle.reducing.proofs.KeepLaws.{adds_none, adds_one, adds_two}
+use Rattle.reducing.proofs.KeepLaws.{adds_one, adds_two}
 use borrow.Author.Rules.{rules}
 use Rattle.reducing.proofs.kept.with_parts.Goals as goal
 
@@ -17,11 +17,6 @@ with_class-requires-in-Two c = (c.requires.0, (low_two c.requires.1 (sym c.parts
 
 pub with_class-requires-in-Two-2 : goal.with_class-requires-in-Two-2
 with_class-requires-in-Two-2 c = (c.requires.0, (low_two c.requires.1 (sym c.parts_of-parts.ensures ∙ c.in-Two.is)).0)
-
-pub returns-in-None : goal.returns-in-None
-returns-in-None c =
-    let size : length c.args.marks ≡ 129 = search rules in
-    adds_none c.args.rep.now c.args.marks size (as_cell c.args.k) (sym c.parts_of-parts.ensures ∙ c.in-None.is)
 
 pub returns-in-One : goal.returns-in-One
 returns-in-One c =

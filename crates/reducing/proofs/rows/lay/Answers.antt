@@ -1,9 +1,8 @@
 -- The cells below i are told; each turn adds one behind them.
 use mathlib.Core.Path.{◌≡◌, sym, ◌∙◌, ap, subst}
 use native.Mathlib.Omega.{arith}
-use lib.ListN.{length, get_or}
+use lib.ListN.{length}
 use Rattle.cells.specs.Cells.{as_cell}
-use Rattle.reducing.specs.Given.{LowParts}
 use Rattle.reducing.specs.Order.{number_at, placed}
 use Rattle.reducing.specs.Plan.{Laid}
 use Rattle.reducing.proofs.PlanLaws.{laid_start, laid_put}
@@ -19,30 +18,6 @@ loop-i-init c =
       size,
     )
 
-pub bounds-old-i : goal.bounds-old-i
-bounds-old-i c =
-    let size : length c.args.numbers.old ≡ 128 = search rules in
-    omega (arith, size, c.requires.count_bound.0)
-
-pub overflow_cast-c : goal.overflow_cast-c
-overflow_cast-c c = omega (arith, c.requires.count_bound.1 c.loop-i.i c.loop-i-test.true)
-
-pub renumbered-k-requires : goal.renumbered-k-requires
-renumbered-k-requires c = (c.requires.low_classes.0, subst LowParts (sym c.cell_at.ensures) (c.requires.low_classes.1 (get_or c.args.numbers.old c.loop-i.i 0)))
-
-pub bounds-bare-c : goal.bounds-bare-c
-bounds-bare-c c = omega (arith, c.loop-i.invariant.2, c.requires.count_bound.1 c.loop-i.i c.loop-i-test.true)
-
-pub put_row-p-requires : goal.put_row-p-requires
-put_row-p-requires c =
-    (omega (arith, c.loop-i.invariant.1.cells, c.loop-i-test.true, c.requires.count_bound.0), omega (arith, c.loop-i.invariant.1.cells, c.loop-i.invariant.1.below))
-
-pub overflow_add-i : goal.overflow_add-i
-overflow_add-i c = omega (arith, c.loop-i-test.true, c.requires.count_bound.0)
-
-pub loop-i-smaller : goal.loop-i-smaller
-loop-i-smaller c = omega arith
-
 pub loop-i-preserved : goal.loop-i-preserved
 loop-i-preserved c = (
   omega (arith, c.loop-i-test.true),
@@ -51,8 +26,3 @@ loop-i-preserved c = (
       (c.renumbered-k.ensures.placed ∙ ap (placed (number_at c.args.rep.now c.args.numbers.new)) c.cell_at.ensures) c.renumbered-k.ensures.stored c.word_of.ensures c.put_row-p.ensures,
   c.loop-i.invariant.2,
 )
-
-pub returns : goal.returns
-returns c =
-    let z : c.loop-i.i ≡ c.args.numbers.count = omega arith in
-    subst (λ i. Laid c.args.table.now c.args.rep.now c.args.numbers.old c.args.numbers.new c.args.bare i c.loop-i.p) z c.loop-i.invariant.1

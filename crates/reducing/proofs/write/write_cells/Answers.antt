@@ -1,6 +1,6 @@
 -- The records of the cells below i stand in the buffer; the next goes to 4 * i, where they end.
 use Prim.Native.Nat.{◌*◌}
-use mathlib.Core.Path.{◌≡◌, refl, ap, ◌∙◌}
+use mathlib.Core.Path.{refl, ap, ◌∙◌}
 use native.Mathlib.Omega.{arith}
 use lib.ListN.{length}
 use lib.Seq.{sets}
@@ -14,18 +14,6 @@ pub loop-i-init : goal.loop-i-init
 unfolding up_to joined
 loop-i-init c = (omega arith, refl, refl)
 
-pub overflow_mul-i : goal.overflow_mul-i
-overflow_mul-i c = omega (arith, c.loop-i-test.true, c.requires.0.few)
-
-pub put_cell-requires : goal.put_cell-requires
-put_cell-requires c = omega (arith, c.loop-i-test.true, c.requires.1, c.loop-i.invariant.2)
-
-pub overflow_add-i : goal.overflow_add-i
-overflow_add-i c = omega (arith, c.loop-i-test.true, c.requires.0.few)
-
-pub loop-i-smaller : goal.loop-i-smaller
-loop-i-smaller c = omega (arith, c.loop-i-test.true)
-
 pub loop-i-preserved : goal.loop-i-preserved
 loop-i-preserved c =
     let p = c.args.plan in
@@ -34,12 +22,3 @@ loop-i-preserved c =
       cells_next p.table c.args.out.now c.loop-i.out _ c.loop-i.i p.cells c.loop-i-test.true c.requires.0.solid c.loop-i.invariant.1 put,
       sets_kept (length c.args.out.now) c.loop-i.out _ (4 * c.loop-i.i) (cell_bytes (table_in p.table c.loop-i.i)) c.loop-i.invariant.2 put,
     )
-
-pub shape_of-out : goal.shape_of-out
-shape_of-out c = c.loop-i.invariant.2
-
-pub returns : goal.returns
-returns c =
-    let p = c.args.plan in
-    let z : c.loop-i.i ≡ p.cells = omega (arith, c.loop-i-test.false) in
-    c.loop-i.invariant.1 ∙ ap (λ i. sets c.args.out.now 0 (joined cell_bytes (up_to (table_in p.table) i))) z

@@ -1,7 +1,7 @@
 -- The records of the learnt cells below i stand in the buffer up to `at`.
 use Prim.Native.Nat.{◌*◌}
 use mathlib.Core.Path.{◌≡◌, refl, ap, ◌∙◌}
-use mathlib.Core.List.{[], ◌∷◌, ◌++◌, map}
+use mathlib.Core.List.{◌++◌, map}
 use native.Mathlib.Omega.{arith}
 use lib.ListN.{length}
 use lib.Seq.{sets}
@@ -12,20 +12,8 @@ use Rattle.reducing.proofs.PlanLaws.{marked_few, marked_up}
 use Rattle.reducing.proofs.BytesLaws.{learning_start, learning_skip, learning_more, learning_end, sets_kept}
 use Rattle.reducing.proofs.write.write_events.Goals as goal
 
-pub overflow_mul-at : goal.overflow_mul-at
-overflow_mul-at c = omega (arith, c.requires.0.few)
-
 pub loop-i-init : goal.loop-i-init
 loop-i-init c = (omega arith, learning_start c.args.plan.learnt (4 * c.args.plan.cells) c.args.out.now, refl)
-
-pub overflow_add-i : goal.overflow_add-i
-overflow_add-i c = omega (arith, c.loop-i-test.true, c.requires.0.few)
-
-pub bounds-plan-c : goal.bounds-plan-c
-bounds-plan-c c = omega (arith, c.loop-i-test.true, c.requires.0.few)
-
-pub overflow_cast-c : goal.overflow_cast-c
-overflow_cast-c c = omega (arith, c.loop-i-test.true, c.requires.0.few)
 
 pub put_learn-requires : goal.put_learn-requires
 put_learn-requires c =
@@ -35,9 +23,6 @@ pub overflow_add-at : goal.overflow_add-at
 overflow_add-at c =
     omega (arith, c.requires.0.few, marked_few c.args.plan.learnt c.args.plan.cells, c.loop-i.invariant.1.place, marked_up c.args.plan.learnt c.args.plan.cells c.loop-i.i c.loop-i-test.true c.if-plan-c-eq1.true)
 
-pub loop-i-smaller-then-plan-c-eq1 : goal.loop-i-smaller-then-plan-c-eq1
-loop-i-smaller-then-plan-c-eq1 c = omega (arith, c.loop-i-test.true)
-
 pub loop-i-preserved-then-plan-c-eq1 : goal.loop-i-preserved-then-plan-c-eq1
 loop-i-preserved-then-plan-c-eq1 c =
     let p = c.args.plan in (
@@ -46,9 +31,6 @@ loop-i-preserved-then-plan-c-eq1 c =
       sets_kept (length c.args.out.now) c.loop-i.out _ c.loop-i.at (event_bytes (LN c.loop-i.i)) c.loop-i.invariant.2 c.put_learn.ensures,
     )
 
-pub loop-i-smaller : goal.loop-i-smaller
-loop-i-smaller c = omega (arith, c.loop-i-test.true)
-
 pub loop-i-preserved : goal.loop-i-preserved
 loop-i-preserved c =
     let p = c.args.plan in (
@@ -56,14 +38,6 @@ loop-i-preserved c =
       learning_skip p.learnt (4 * p.cells) c.args.out.now c.loop-i.i c.loop-i.at c.loop-i.out c.loop-i.invariant.1 c.if-plan-c-eq1.false,
       c.loop-i.invariant.2,
     )
-
-pub put_mark-requires : goal.put_mark-requires
-put_mark-requires c =
-    let z : c.loop-i.i ≡ c.args.plan.cells = omega (arith, c.loop-i-test.false) in
-    omega (arith, c.requires.1, c.requires.0.counts, c.loop-i.invariant.1.place, c.loop-i.invariant.2, ap (λ i. length (marked c.args.plan.learnt i)) z)
-
-pub shape_of-out : goal.shape_of-out
-shape_of-out c = sets_kept (length c.args.out.now) c.loop-i.out _ c.loop-i.at (69 ∷ 78 ∷ []) c.loop-i.invariant.2 c.put_mark.ensures
 
 pub returns : goal.returns
 returns c =
