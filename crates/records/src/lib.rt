@@ -52,7 +52,10 @@ pub fn put_cell(out: &mut [u8], at: usize, k: Cell)
     ensures { out.new ≡ sets out.old at (cell_bytes (as_cell k)) }
 {
     match k {
-        Cell::Atom(n) => put_fields(out, at, b"AT", (n / 256) as u8, (n % 256) as u8),
+        Cell::Atom(n) => {
+            let [high, low] = n.to_be_bytes();
+            put_fields(out, at, b"AT", high, low);
+        }
         Cell::Variable => put_mark(out, at, b"VA"),
         Cell::Pair(l, r) => put_fields(out, at, b"PR", l, r),
         Cell::Seal(b, s) => put_fields(out, at, b"SE", b, s),

@@ -28,7 +28,7 @@ pub enum Reduced {
 }
 
 // The reduced file before it is written: its table, marks on the cells that it learns, and how many cells and events it has.
-#[derive(Clone, Copy)]
+#[derive(Clone, Copy, Debug, PartialEq, Eq)]
 struct Plan {
     pub table: Table,
     pub learnt: [u8; 128],
