@@ -1,4 +1,5 @@
 -- By what the cell is composed of.
+use native.Mathlib.Omega.{arith}
 use Rattle.theory.proofs.Decides.{decides_no}
 use Rattle.reducing.specs.Bare.{BuiltClass}
 use Rattle.reducing.proofs.PartLaws.{low_made_one, low_made_two}
@@ -9,10 +10,10 @@ pub has-requires-clause-x_bound : goal.has-requires-clause-x_bound
 has-requires-clause-x_bound c = low_made_one c.requires.1 c.in-One.is c.made_of.ensures
 
 pub has-requires-in-Two-clause-x_bound : goal.has-requires-in-Two-clause-x_bound
-has-requires-in-Two-clause-x_bound c = (low_made_two c.requires.1 c.in-Two.is c.made_of.ensures).1
+has-requires-in-Two-clause-x_bound c = let (x, y) = low_made_two c.requires.1 c.in-Two.is c.made_of.ensures in omega arith
 
 pub has-requires-then-has-clause-x_bound : goal.has-requires-then-has-clause-x_bound
-has-requires-then-has-clause-x_bound c = (low_made_two c.requires.1 c.in-Two.is c.made_of.ensures).0
+has-requires-then-has-clause-x_bound c = let (x, y) = low_made_two c.requires.1 c.in-Two.is c.made_of.ensures in omega arith
 
 pub returns-in-One : goal.returns-in-One
 returns-in-One c = idle_one (BuiltClass c.args.rep.now c.args.built.now) c.in-One.is c.made_of.ensures c.has.ensures

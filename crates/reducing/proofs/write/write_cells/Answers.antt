@@ -1,27 +1,18 @@
 -- The records of the cells below i stand in the buffer; the next goes to 4 * i, where they end.
 use Prim.Native.Nat.{◌*◌}
 use mathlib.Core.Path.{refl, ap, ◌∙◌}
-use native.Mathlib.Omega.{arith}
 use lib.ListN.{length}
 use lib.Seq.{sets}
 use Rattle.model.specs.Format.{cell_bytes, joined}
 use Rattle.model.specs.Stored.{table_in}
 use Rattle.records.proofs.Rows.{sets_kept}
 use Rattle.reducing.specs.Plan.{up_to}
-use Rattle.reducing.proofs.BytesLaws.{cell_length, cells_next}
+use Rattle.reducing.proofs.BytesLaws.{cells_next}
 use Rattle.reducing.proofs.write.write_cells.Goals as goal
 
 pub loop-i-init : goal.loop-i-init
 unfolding up_to joined
 loop-i-init c = (refl, refl)
-
-pub put_cell-requires : goal.put_cell-requires
-put_cell-requires c =
-    omega (
-      arith,
-      ap (λ k. length (cell_bytes k)) c.cell_at.ensures,
-      cell_length (table_in c.args.plan.now.table c.loop-i.i) (c.requires.0.solid c.loop-i.i c.loop-i-test.true),
-    )
 
 pub loop-i-preserved : goal.loop-i-preserved
 loop-i-preserved c =

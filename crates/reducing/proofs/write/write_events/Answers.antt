@@ -25,11 +25,6 @@ pub overflow_add-at : goal.overflow_add-at
 overflow_add-at c =
     omega (arith, c.requires.0.few, marked_few c.args.plan.now.learnt c.args.plan.now.cells, c.loop-c.invariant.0.place, marked_up c.args.plan.now.learnt c.args.plan.now.cells c.loop-c.c c.loop-c-test.true c.if-plan-c-eq1.true)
 
-pub put_mark-requires : goal.put_mark-requires
-put_mark-requires c =
-    let z : c.loop-c.c ≡ c.args.plan.now.cells = omega arith in
-    omega (arith, c.requires.0.counts, c.loop-c.invariant.0.place, ap (λ i. length (marked c.args.plan.now.learnt i)) z)
-
 pub loop-c-preserved : goal.loop-c-preserved
 loop-c-preserved c =
     let p = c.args.plan.now in
