@@ -1,5 +1,5 @@
 -- `knowledge::is_made` meets its contract: one law for what he composes the cell of, nothing, one part or two.
-use Rattle.knowledge.proofs.ByKind.{one_part, two_parts, made_none, made_one, made_not, made_two}
+use Rattle.knowledge.proofs.ByKind.{one_part, two_parts, made_one, made_not, made_two}
 use Rattle.knowledge.proofs.is_made.Goals as goal
 
 pub has-requires : goal.has-requires
@@ -13,9 +13,6 @@ returns-then-not-has c = made_not c.made_of-parts.ensures c.in-Two.is (c.has-in-
 
 pub has-requires-in-Two-2 : goal.has-requires-in-Two-2
 has-requires-in-Two-2 c = record { class_row = c.requires.class_row; x_bound = c.requires.by_index _ (two_parts c.made_of-parts.ensures c.in-Two.is).1 }
-
-pub returns-in-None : goal.returns-in-None
-returns-in-None c = made_none c.made_of-parts.ensures c.in-None.is
 
 pub returns-in-One : goal.returns-in-One
 returns-in-One c = made_one c.made_of-parts.ensures c.in-One.is c.has.ensures
