@@ -2,22 +2,9 @@
 use native.Mathlib.Omega.{arith}
 use Rattle.model.proofs.Accepted.{Bytes}
 use Rattle.knowledge.proofs.ClassRows.{kept_row}
-use Rattle.casefile.proofs.CaseFile.{case_refused, case_accepted, case_variable, case_words, case_events}
-use Rattle.building.proofs.PromiseLaws.{promise_refused, promise_variable}
-use Rattle.building.proofs.CaseLaws.{answer_short, answer_marks}
+use Rattle.casefile.proofs.CaseFile.{case_accepted, case_words, case_events}
+use Rattle.building.proofs.CaseLaws.{answer_marks}
 use Rattle.building.proofs.build_marks.Goals as goal
-
-pub returns-in-Refused : goal.returns-in-Refused
-returns-in-Refused c = promise_refused c.args.file.now c.args.out.now _ _ (case_refused c.args.file.now c.read_case-case.result c.read_case-case.ensures _ _ c.in-Refused.is)
-
-pub returns-in-At : goal.returns-in-At
-returns-in-At c =
-    let w = case_accepted c.args.file.now c.read_case-case.result c.read_case-case.ensures c.in_default.is in
-    promise_variable c.args.file.now c.args.out.now w.f w.read _ (case_variable w _ c.in-At.is)
-
-pub returns-then-out-n : goal.returns-then-out-n
-returns-then-out-n c =
-    answer_short (case_accepted c.args.file.now c.read_case-case.result c.read_case-case.ensures c.in_default.is) c.in_default-variable.is c.args.out.now c.if-out-n.true
 
 pub open_heard-k-requires : goal.open_heard-k-requires
 open_heard-k-requires c =
