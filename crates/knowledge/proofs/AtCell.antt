@@ -10,8 +10,6 @@ use Rattle.model.specs.Stored.{table_in}
 use Rattle.theory.specs.Cells.{TableWords, class_at, On}
 use Rattle.theory.specs.Decides.{Decides}
 use Rattle.theory.proofs.Decides.{decides_yes, decides_iff}
-use Rattle.knowledge.specs.declared.Shown.{Shown}
-use Rattle.knowledge.specs.declared.Shown.TheVariants.{Parts, Nothing}
 use Rattle.knowledge.specs.Knowledge.{ClassRow}
 use Rattle.knowledge.specs.Sweeps.{left_part, right_part, left_class, right_class, Given, MadeBy, Gives, Adds, Newly, Shows, Finds}
 use Rattle.knowledge.proofs.ByKind.{left_low, right_low}
@@ -42,8 +40,8 @@ module _ (T : Table) (rep seens builts : List ℕ) (c : ℕ) {k : Cell} (e : k �
 
 -- The classes of the parts of c, where they are newly seen: its cell k decides.
 module _ (T : Table) (rep seens builts : List ℕ) (c : ℕ) {k : Cell} (e : k ≡ T c) where
-  pub shows_mute : (Gives k rep builts → ⊥) → Finds T rep seens builts c Nothing
-  shows_mute n = Finds.nothing (λ w. n (subst (λ j. Gives j rep builts) (sym e) w.gives))
+  pub shows_mute : (Gives k rep builts → ⊥) → Shows T rep seens builts c → ⊥
+  shows_mute n w = n (subst (λ j. Gives j rep builts) (sym e) w.gives)
 
   module _ {a b : ℕ} (l : a ≡ class_at rep (left_part k c)) (r : b ≡ class_at rep (right_part k c)) where
     left_class_lem : a ≡ left_class T rep c
@@ -52,26 +50,21 @@ module _ (T : Table) (rep seens builts : List ℕ) (c : ℕ) {k : Cell} (e : k �
     right_class_lem : b ≡ right_class T rep c
     right_class_lem = r ∙ ap (λ j. class_at rep (right_part j c)) e
 
-    pub shows_old : On seens a → On seens b → Finds T rep seens builts c Nothing
-    shows_old x y = Finds.nothing (λ w. w.new (subst (On seens) left_class_lem x) (subst (On seens) right_class_lem y))
+    pub shows_old : On seens a → On seens b → Shows T rep seens builts c → ⊥
+    shows_old x y w = w.new (subst (On seens) left_class_lem x) (subst (On seens) right_class_lem y)
 
-    pub shows_new : class_at rep c ≡ c → On seens c → Gives k rep builts → (On seens a → On seens b → ⊥) → Finds T rep seens builts c (Parts a b)
-    shows_new s h g n = rw (left_class_lem, right_class_lem) (Finds.parts (record {
-      stands = s;
-      whole = h;
-      gives = subst (λ j. Gives j rep builts) e g;
-      new = λ x y. n (subst (On seens) (sym left_class_lem) x) (subst (On seens) (sym right_class_lem) y);
-    }))
-
--- What is found is what a seen cell newly gives.
-pub found_parts : {T : Table} {rep seens builts : List ℕ} {c a b : ℕ} {p : Shown} → Finds T rep seens builts c p → p ≡ Parts a b →
-    (a ≡ left_class T rep c) × (b ≡ right_class T rep c) × Shows T rep seens builts c
-found_parts (Finds.parts w) e = (cc, cc, w)
-found_parts (Finds.nothing n) e = clash (cc)
-
-pub found_nothing : {T : Table} {rep seens builts : List ℕ} {c : ℕ} {p : Shown} → Finds T rep seens builts c p → p ≡ Nothing → Shows T rep seens builts c → ⊥
-found_nothing (Finds.parts w) e = clash (cc)
-found_nothing (Finds.nothing n) e = n
+    pub shows_new : class_at rep c ≡ c → On seens c → Gives k rep builts → (On seens a → On seens b → ⊥) →
+        (a ≡ left_class T rep c) × (b ≡ right_class T rep c) × Shows T rep seens builts c
+    shows_new s h g n = (
+      left_class_lem,
+      right_class_lem,
+      record {
+        stands = s;
+        whole = h;
+        gives = subst (λ j. Gives j rep builts) e g;
+        new = λ x y. n (subst (On seens) (sym left_class_lem) x) (subst (On seens) (sym right_class_lem) y);
+      },
+    )
 
 -- The cells that stand for the classes of the parts have marks.
 module _ {n : ℕ} {rep : List ℕ} (w : ClassRow n rep) (T : Table) (c : ℕ) {a : ℕ} where

@@ -6,12 +6,10 @@ use Rattle.knowledge.proofs.rise.Goals as goal
 use Rattle.knowledge.proofs.rise.Goals.{then-newly, else-newly}
 
 pub loop-c-preserved : goal.loop-c-preserved
-loop-c-preserved c = (
-  elim c.if-newly.branch [
-    | then-newly w ↦ rw (w.built-is, w.changed-is)
-        (rising_mark (table_in c.args.table.now) c.requires.class_row c.args.seen c.args.start c.loop-c.c c.loop-c.invariant.0 (omega arith) (c.newly.ensures.yes w.if-newly.true))
-    | else-newly w ↦ rw (w.built-is, w.changed-is)
-        (rising_skip (table_in c.args.table.now) c.requires.class_row c.args.seen c.args.start c.loop-c.c c.loop-c.invariant.0 (c.newly.ensures.no w.if-newly.false))
-  ],
-  omega arith,
-)
+loop-c-preserved c =
+    elim c.if-newly.branch [
+      | then-newly w ↦ rw (w.built-is, w.changed-is)
+          (rising_mark (table_in c.args.table.now) c.requires.class_row c.args.seen.now c.args.built.now c.loop-c.c c.loop-c.invariant (omega arith) (c.newly.ensures.yes w.if-newly.true))
+      | else-newly w ↦ rw (w.built-is, w.changed-is)
+          (rising_skip (table_in c.args.table.now) c.requires.class_row c.args.seen.now c.args.built.now c.loop-c.c c.loop-c.invariant (c.newly.ensures.no w.if-newly.false))
+    ]
