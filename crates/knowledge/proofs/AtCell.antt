@@ -1,17 +1,15 @@
 -- What is found at one cell.
 use mathlib.Core.Path.{◌≡◌, sym, ◌∙◌, ap, subst}
-use mathlib.Core.Bool.{Bool, true}
+use mathlib.Core.Bool.{Bool}
 use mathlib.Core.List.{List}
 use Prim.Native.Nat.{ℕ, ◌≤◌, ◌<◌}
 use native.Mathlib.Omega.{arith}
-use Rattle.model.proofs.Read.{clash}
 use Rattle.model.specs.Case.{Cell, Table, Part}
 use Rattle.model.specs.Stored.{table_in}
 use Rattle.theory.specs.Cells.{TableWords, class_at, On}
 use Rattle.theory.specs.Decides.{Decides}
-use Rattle.theory.proofs.Decides.{decides_yes, decides_iff}
-use Rattle.knowledge.specs.Knowledge.{ClassRow}
-use Rattle.knowledge.specs.Sweeps.{left_part, right_part, left_class, right_class, Given, MadeBy, Gives, Adds, Newly, Shows, Finds}
+use Rattle.theory.proofs.Decides.{decides_iff}
+use Rattle.knowledge.specs.Sweeps.{left_part, right_part, left_class, right_class, Given, MadeBy, Gives, Adds, Newly, Shows}
 use Rattle.knowledge.proofs.ByKind.{left_low, right_low}
 
 -- The parts of a cell are cells.
@@ -27,9 +25,6 @@ module _ {n : ℕ} {words : List ℕ} (w : TableWords n words) (c : ℕ) (h : c 
 
 -- Is c to be marked as built? It stands for its class and is not marked, and its cell k decides.
 module _ (T : Table) (rep seens builts : List ℕ) (c : ℕ) {k : Cell} (e : k ≡ T c) (s : class_at rep c ≡ c) (n : On builts c → ⊥) where
-  pub newly_given : Given k → Decides true (Newly T rep seens builts c)
-  newly_given g = decides_yes (record { stands = s; new = n; adds = Adds.given (subst Given e g) })
-
   pub newly_made : {r : Bool} → (On seens c → ⊥) → (Given k → ⊥) → Decides r (MadeBy k rep builts) → Decides r (Newly T rep seens builts c)
   newly_made u v d = decides_iff d (λ m. record { stands = s; new = n; adds = Adds.made (subst (λ j. MadeBy j rep builts) e m) }) (λ w. only w.adds)
     where
@@ -65,11 +60,3 @@ module _ (T : Table) (rep seens builts : List ℕ) (c : ℕ) {k : Cell} (e : k �
         new = λ x y. n (subst (On seens) (sym left_class_lem) x) (subst (On seens) (sym right_class_lem) y);
       },
     )
-
--- The cells that stand for the classes of the parts have marks.
-module _ {n : ℕ} {rep : List ℕ} (w : ClassRow n rep) (T : Table) (c : ℕ) {a : ℕ} where
-  pub left_end : a ≡ left_class T rep c → a < 129
-  left_end e = omega (arith, w.low (left_part (T c) c))
-
-  pub right_end : a ≡ right_class T rep c → a < 129
-  right_end e = omega (arith, w.low (right_part (T c) c))

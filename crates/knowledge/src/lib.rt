@@ -109,7 +109,7 @@ fn gives(n: usize, k: Cell, rep: &[u8; 129], built: &[u8; 129]) -> bool
     ensures { Decides result (Gives (as_cell k) rep.now built.now) }
 {
     match opens(k) {
-        Opening::Open(_, _) => true,
+        Opening::Open(..) => true,
         Opening::Locked(_, key) => has(n, rep, built, key),
         Opening::Shut => is_made(n, k, rep, built),
     }
@@ -247,20 +247,19 @@ pub fn learn(n: usize, rep: &[u8; 129], mut seen: [u8; 129], c: usize) -> [u8; 1
 }
 
 // What he sees and can build, from marks of seen cells.
-pub fn open_known(table: &Table, n: usize, rep: &[u8; 129], seen: [u8; 129]) -> Marks
+pub fn open_known(table: &Table, n: usize, rep: &[u8; 129], mut seen: [u8; 129]) -> Marks
     requires table_words { TableWords n table.now }
     requires class_row { ClassRow n rep.now }
     requires mark_row { MarkRow rep.now seen }
     ensures { Opened (table_in table.now) rep.now seen result }
 {
-    let mut s = seen;
-    let mut b = own_marks(n, rep);
+    let mut built = own_marks(n, rep);
     loop {
-        let t = sweep(table, n, rep, s, b);
-        s = t.seen;
-        b = t.built;
-        if !t.changed {
-            return Marks { seen: s, built: b };
+        let turn = sweep(table, n, rep, seen, built);
+        seen = turn.seen;
+        built = turn.built;
+        if !turn.changed {
+            return Marks { seen, built };
         }
     }
 }

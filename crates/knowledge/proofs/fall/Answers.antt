@@ -2,7 +2,7 @@
 use Prim.Native.Nat.{◌-◌}
 use native.Mathlib.Omega.{arith}
 use Rattle.model.specs.Stored.{table_in}
-use Rattle.knowledge.proofs.Sound.{falling_skip, falling_mark}
+use Rattle.knowledge.proofs.Sound.{falling_mark}
 use Rattle.knowledge.proofs.fall.Goals as goal
 
 pub loop-c-preserved-in-Some : goal.loop-c-preserved-in-Some

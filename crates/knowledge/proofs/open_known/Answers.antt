@@ -7,7 +7,7 @@ use Rattle.knowledge.specs.Sweeps.{Turned}
 use Rattle.knowledge.proofs.Closing.{opened}
 use Rattle.knowledge.proofs.open_known.Goals as goal
 
-pub returns-then-not-t : goal.returns-then-not-t
-returns-then-not-t c =
-    opened (table_in c.args.table.now) c.requires.class_row c.requires.table_words.beyond c.own_marks-b.ensures c.loop-s.invariant
-    (subst (λ (ch : Bool). Turned (table_in c.args.table.now) c.args.n c.args.rep.now c.loop-s.s c.loop-s.b c.sweep-t.result.seen c.sweep-t.result.built ch) (not-true _ c.if-not-t.true) c.sweep-t.ensures)
+pub returns-then-not-turn : goal.returns-then-not-turn
+returns-then-not-turn c =
+    opened (table_in c.args.table.now) c.requires.class_row c.requires.table_words.beyond c.own_marks-built.ensures c.loop-seen.invariant
+    (subst (λ (ch : Bool). Turned (table_in c.args.table.now) c.args.n c.args.rep.now c.loop-seen.seen c.loop-seen.built c.sweep-turn.result.seen c.sweep-turn.result.built ch) (not-true _ c.if-not-turn.true) c.sweep-turn.ensures)

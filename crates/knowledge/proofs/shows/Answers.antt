@@ -1,7 +1,7 @@
 -- `knowledge::shows` meets its contract: the tests are the fields of `Shows`, one after the other.
 use mathlib.Core.Path.{sym, ◌∙◌}
 use Rattle.model.specs.Stored.{table_in}
-use Rattle.knowledge.proofs.AtCell.{left_cell, right_cell, shows_mute, shows_old, shows_new}
+use Rattle.knowledge.proofs.AtCell.{left_cell, right_cell, shows_mute, shows_new}
 use Rattle.knowledge.proofs.shows.Goals as goal
 use Rattle.knowledge.proofs.shows.Goals.{else-seen-ends-eq1-via-then-seen-ends-eq1+else-seen-ends-eq1-2, else-seen-ends-eq1-via-else-seen-ends-eq1}
 
