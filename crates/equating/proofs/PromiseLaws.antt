@@ -108,9 +108,6 @@ module _ {file : List ℕ} {r : Case} (w : CaseFile file r) (a b : ℕ) (before 
   abbrev Off : ℕ → Type 0
   Off n = (n ≤ a) ⊎ (n ≤ b)
 
-  pub reply_outside : (r.table.count ≤ a) ⊎ (r.table.count ≤ b) → EquatePromise file a b before (Refused 5 r.table.count) before
-  reply_outside = subst (λ (n : ℕ). Off n → EquatePromise file a b before (Refused 5 n) before) (sym (case_count w)) (promise_outside file a b before w.f w.read)
-
   module _ (inside : (r.table.count ≤ a) ⊎ (r.table.count ≤ b) → ⊥) where
     pub case_inside : (a < r.table.count) × (b < r.table.count)
     case_inside = (below a (λ h. inside (inl h)), below b (λ h. inside (inr h)))

@@ -1,6 +1,5 @@
 -- A refused file is replied to as it was read; then the two numbers and the buffer are tested, and the classes of the two cells in one, with all that this asks for, decide.
 use native.Mathlib.Omega.{arith}
-use borrow.Author.Tests.{not-true, not-false}
 use Rattle.casefile.proofs.CaseFile.{case_accepted, case_words}
 use Rattle.equating.proofs.PromiseLaws.{case_inside, reply_no, reply_listed}
 use Rattle.equating.proofs.equate.Goals as goal
@@ -15,9 +14,9 @@ unify-joined-requires c =
 pub returns-then-not-joined : goal.returns-then-not-joined
 returns-then-not-joined c =
     reply_no (case_accepted c.args.file.now c.read_case-read.result c.read_case-read.ensures c.in_default.is) c.args.a c.args.b c.args.out.now (c.outside.ensures.no c.if-outside.false) c.if-out-n.false (λ i. omega (arith, c.type_inv.file i))
-    c.start-rep.result c.start-rep.ensures c.unify-joined.result c.unify-joined.ensures (not-true _ c.if-not-joined.true)
+    c.start-rep.result c.start-rep.ensures c.unify-joined.result c.unify-joined.ensures c.if-not-joined.true
 
 pub returns : goal.returns
 returns c =
     reply_listed (case_accepted c.args.file.now c.read_case-read.result c.read_case-read.ensures c.in_default.is) c.args.a c.args.b c.args.out.now (c.outside.ensures.no c.if-outside.false) c.if-out-n.false (λ i. omega (arith, c.type_inv.file i))
-    c.start-rep.result c.start-rep.ensures c.unify-joined.result c.unify-joined.ensures (not-false _ c.if-not-joined.false) _ c.write_list.ensures
+    c.start-rep.result c.start-rep.ensures c.unify-joined.result c.unify-joined.ensures c.if-not-joined.false _ c.write_list.ensures
