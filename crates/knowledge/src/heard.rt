@@ -27,6 +27,7 @@ pub fn learnt_before(n: usize, rep: &[u8; 129], run: &Run, count: usize, p: usiz
         match event_at(run, q) {
             Event::Make(_) => {}
             Event::Learn(x) => {
+                // Bound first: the proof covers no call whose result is laid in an array at once.
                 let more = super::learn(n, rep, seen, super::cell(x));
                 seen = more;
             }

@@ -1,5 +1,6 @@
 -- `building::build_marks` keeps its promise: each way out cites the law of its reply.
 use native.Mathlib.Omega.{arith}
+use borrow.Author.Rules.{rules}
 use Rattle.model.proofs.Accepted.{Bytes}
 use Rattle.knowledge.proofs.ClassRows.{kept_row}
 use Rattle.casefile.proofs.CaseFile.{case_accepted, case_words, case_events}
@@ -22,4 +23,4 @@ pub returns : goal.returns
 returns c =
     let every : Bytes c.args.file.now = λ i. omega (arith, c.type_inv.file i) in
     let w = case_accepted c.args.file.now c.read_case-case.result c.read_case-case.ensures c.in_default.is in
-    answer_marks w c.in_default-variable.is c.args.out.now every c.open_heard-known.ensures c.if-out-n.false c.lay_marks.ensures
+    answer_marks w (search rules) c.args.out.now every c.open_heard-known.ensures c.if-out-n.false c.lay_marks.ensures
