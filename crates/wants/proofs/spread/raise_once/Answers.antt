@@ -1,25 +1,9 @@
 -- The invariant: unless something changed, no cell below c is left to mark.
-use mathlib.Core.Path.{subst}
-use Prim.Native.Nat.{ℕ}
 use native.Mathlib.Omega.{arith}
-use borrow.Author.Rules.{rules}
 use Rattle.model.specs.Stored.{table_in}
-use Rattle.wants.proofs.SpreadLaws.{raising_none, raising_mark, raising_skip}
-use Rattle.wants.specs.Spread.{Raising}
+use Rattle.wants.proofs.SpreadLaws.{raising_mark, raising_skip}
 use Rattle.wants.proofs.spread.raise_once.Goals as goal
 use Rattle.wants.proofs.spread.raise_once.Goals.{else-raises, then-raises}
-
-pub loop-c-init : goal.loop-c-init
-loop-c-init c = (raising_none (table_in c.args.table.now) c.args.rep.now c.args.start (search rules) c.requires.mark_row, omega arith)
-
-pub bounds-m-c : goal.bounds-m-c
-bounds-m-c c = omega (arith, c.requires.table_words.few)
-
-pub overflow_add-c : goal.overflow_add-c
-overflow_add-c c = omega (arith, c.requires.table_words.few)
-
-pub loop-c-smaller : goal.loop-c-smaller
-loop-c-smaller c = omega arith
 
 pub loop-c-preserved : goal.loop-c-preserved
 loop-c-preserved c = (
@@ -31,8 +15,3 @@ loop-c-preserved c = (
   ],
   omega arith,
 )
-
-pub returns : goal.returns
-returns c =
-    subst (λ (i : ℕ). Raising (table_in c.args.table.now) c.args.rep.now c.args.start c.loop-c.m c.loop-c.changed i) (omega arith)
-    c.loop-c.invariant.0

@@ -1,13 +1,9 @@
 -- A case for each kind of event, and for the test.
 use mathlib.Core.Path.{◌∙◌, ap}
-use native.Mathlib.Omega.{arith}
 use Rattle.theory.specs.Cells.{class_at}
 use Rattle.cells.specs.Cells.{as_event}
 use Rattle.wants.proofs.StartLaws.{due_learnt, due_new, due_unheld}
 use Rattle.wants.proofs.starts.due_at.Goals as goal
-
-pub bounds-hold-t : goal.bounds-hold-t
-bounds-hold-t c = omega (arith, c.class_of-t.ensures, c.requires.class_row.low c.cell.result)
 
 pub returns-then-hold-t-ne1 : goal.returns-then-hold-t-ne1
 returns-then-hold-t-ne1 c =

@@ -7,9 +7,6 @@ use Rattle.theory.proofs.Decides.{decides_no, decides_yes}
 use Rattle.wants.proofs.StartLaws.{bare_unkin, bare_made, bare_here}
 use Rattle.wants.proofs.starts.is_bare.Goals as goal
 
-pub returns-then-seen-c-ne1 : goal.returns-then-seen-c-ne1
-returns-then-seen-c-ne1 c = decides_no (λ w. c.if-seen-c-ne1.true w.whole)
-
 pub returns-then-not-kin_at : goal.returns-then-not-kin_at
 returns-then-not-kin_at c =
     decides_no (bare_unkin (table_in c.args.table.now) c.args.rep.now c.args.seen.now c.args.built.now c.args.c (c.kin_at.ensures.no c.if-not-kin_at.true))

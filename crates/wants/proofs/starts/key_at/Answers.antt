@@ -1,6 +1,5 @@
 -- A case for each test.
 use mathlib.Core.Path.{◌∙◌, ap}
-use native.Mathlib.Omega.{arith}
 use Rattle.model.specs.Stored.{table_in}
 use Rattle.theory.specs.Cells.{class_at}
 use Rattle.wants.proofs.StartLaws.{shut_unsealed, open_unsealed, locked_seal, key_unseen, key_unsealed, key_built, key_new}
@@ -8,9 +7,6 @@ use Rattle.wants.proofs.starts.key_at.Goals as goal
 
 pub returns-then-seen-c-ne1 : goal.returns-then-seen-c-ne1
 returns-then-seen-c-ne1 c = key_unseen (table_in c.args.table.now) c.args.rep.now c.args.seen.now c.args.built.now c.args.c c.if-seen-c-ne1.true
-
-pub bounds-built-k : goal.bounds-built-k
-bounds-built-k c = omega (arith, c.class_of-k.ensures, c.requires.class_row.low c.cell.result)
 
 pub returns-then-built-k-eq1 : goal.returns-then-built-k-eq1
 returns-then-built-k-eq1 c =
