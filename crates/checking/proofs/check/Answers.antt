@@ -1,20 +1,8 @@
 -- Each reply by its law: the file's refusals, the length, the first entry of bad form, and whether the list is right.
 use native.Mathlib.Omega.{arith}
-use Rattle.casefile.proofs.CaseFile.{case_refused, case_accepted}
-use Rattle.checking.proofs.PromiseLaws.{promise_refused}
-use Rattle.checking.proofs.CaseLaws.{judged_size, judged_form, judged_words, judged_right, judged_wrong}
+use Rattle.casefile.proofs.CaseFile.{case_accepted}
+use Rattle.checking.proofs.CaseLaws.{judged_form, judged_words, judged_right, judged_wrong}
 use Rattle.checking.proofs.check.Goals as goal
-
-pub returns-in-Refused : goal.returns-in-Refused
-returns-in-Refused c =
-    promise_refused c.args.file.now c.args.list.now _ _ (case_refused c.args.file.now c.read_case-case.result c.read_case-case.ensures _ _ c.in-Refused.is)
-
-pub returns-then-list-n : goal.returns-then-list-n
-returns-then-list-n c =
-    judged_size (case_accepted c.args.file.now c.read_case-case.result c.read_case-case.ensures c.in_default.is) c.args.list.now (λ e. omega (arith, c.if-list-n.true))
-
-pub first_bad-bad-requires : goal.first_bad-bad-requires
-first_bad-bad-requires c = c.if-list-n.false
 
 pub returns-then-bad-n : goal.returns-then-bad-n
 returns-then-bad-n c =

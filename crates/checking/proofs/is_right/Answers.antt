@@ -1,5 +1,4 @@
 -- Following the list as classes, putting cells of one message together, and marking event by event, each by its contract.
-use native.Mathlib.Omega.{arith}
 use borrow.Author.Tests.{not-true, not-false}
 use mathlib.Core.Path.{subst}
 use mathlib.Core.Bool.{Bool}
@@ -9,9 +8,6 @@ use Rattle.checking.specs.Made.{AllMade}
 use Rattle.knowledge.proofs.ClassRows.{kept_row}
 use Rattle.checking.proofs.RightLaws.{words_own, inside_own, right_round, right_yes, right_no}
 use Rattle.checking.proofs.is_right.Goals as goal
-
-pub put_own-owned-requires : goal.put_own-owned-requires
-put_own-owned-requires c = omega (arith, c.requires.table_words.few, c.requires.form.size)
 
 pub follow-f-requires : goal.follow-f-requires
 follow-f-requires c =

@@ -4,9 +4,6 @@ use mathlib.Core.Path.{◌≡◌, sym, ◌∙◌}
 use mathlib.Core.Bool.{true, false, true≢false}
 use Rattle.checking.proofs.follow.follow.Goals as goal
 
-pub settle-s-requires : goal.settle-s-requires
-settle-s-requires c = record { table_words = c.requires.table_words; kept = c.gather-gathered.ensures.kept }
-
 pub returns-then-not-s : goal.returns-then-not-s
 returns-then-not-s c =
     let bad : c.settle-s.result.ok ≡ false = not-true _ c.if-not-s.true in
@@ -15,9 +12,6 @@ returns-then-not-s c =
       solved = λ e. absurd (true≢false (sym e ∙ bad));
       sat = λ e. absurd (true≢false (sym e ∙ bad));
     }
-
-pub acyclic-ok-requires : goal.acyclic-ok-requires
-acyclic-ok-requires c = record { table_words = c.requires.table_words; kept = c.settle-s.ensures.kept (not-false _ c.if-not-s.false) }
 
 pub returns : goal.returns
 returns c =
