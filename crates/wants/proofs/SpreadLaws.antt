@@ -80,8 +80,8 @@ module _ (T : Table) {n : ℕ} {rep : List ℕ} (row : ClassRow n rep) (only : L
     lowering_skip none = lowering_next c x.sweep (λ i. (x.left i, λ y. none (subst (Reaches r only flag c) (sym e.right) y)))
 
 module _ {n : ℕ} {words rep : List ℕ} (w : TableWords n words) (only : List ℕ) (flag : ℕ) where
-  pub lowered_still : {m₀ m r : List ℕ} → Wider rep m₀ m → Lowering (table_in words) rep only flag m r false n 0 → Lowered (table_in words) rep only flag m₀ r
-  lowered_still {m₀} {m} {r} x y = record { wider = grown_wider x y.grown; parts = parts }
+  pub lowered_still : {m₀ m r : List ℕ} {ch : Bool} → Wider rep m₀ m → Lowering (table_in words) rep only flag m r ch n 0 → ch ≡ false → Lowered (table_in words) rep only flag m₀ r
+  lowered_still {m₀} {m} {r} x y z = record { wider = grown_wider x y.grown; parts = parts }
     where
       T : Table
       T = table_in words
@@ -91,7 +91,7 @@ module _ {n : ℕ} {words rep : List ℕ} (w : TableWords n words) (only : List 
 
       parts : (c d : ℕ) → class_at rep c ≡ c → On r c → Part (T c) d → get_or only (class_at rep d) 0 ≡ flag → On r (class_at rep d)
       parts c d e o q f =
-          let (l, k) = y.still refl c (omega arith) (rows_part w c d q).0 in
+          let (l, k) = y.still z c (omega arith) (rows_part w c d q).0 in
           elim (part_side c q) [
             | inl i ↦ reach c (class_at rep d) o f (subst (λ z. Reaches r only flag c (class_at rep z) → ⊥) i l)
             | inr i ↦ reach c (class_at rep d) o f (subst (λ z. Reaches r only flag c (class_at rep z) → ⊥) i k)
@@ -121,8 +121,8 @@ module _ (T : Table) (rep m : List ℕ) (c a b : ℕ) (e : EndsAt T rep c a b) w
   raises_none n x = elim x.part [ inl o ↦ absurd (n (subst (On m) (sym e.left) o)) | inr o ↦ subst (On m) (sym e.right) o ]
 
 module _ {n : ℕ} {words rep : List ℕ} (w : TableWords n words) where
-  pub raised_still : {m₀ m r : List ℕ} → Wider rep m₀ m → Raising (table_in words) rep m r false n → Raised (table_in words) rep m₀ r
-  raised_still {m₀} {m} {r} x y = record { wider = grown_wider x y.grown; up = up }
+  pub raised_still : {m₀ m r : List ℕ} {ch : Bool} → Wider rep m₀ m → Raising (table_in words) rep m r ch n → ch ≡ false → Raised (table_in words) rep m₀ r
+  raised_still {m₀} {m} {r} x y z = record { wider = grown_wider x y.grown; up = up }
     where
       T : Table
       T = table_in words
@@ -130,7 +130,7 @@ module _ {n : ℕ} {words rep : List ℕ} (w : TableWords n words) where
       up : (c d : ℕ) → class_at rep c ≡ c → Part (T c) d → On r (class_at rep d) → On r c
       up c d e q o = elim (on? r c) [
         | inl i ↦ i
-        | inr i ↦ absurd (y.still refl c (rows_part w c d q).0 (record {
+        | inr i ↦ absurd (y.still z c (rows_part w c d q).0 (record {
           stands = e;
           new = i;
           part = elim (part_side c q) [ inl j ↦ inl (subst (λ z. On r (class_at rep z)) (sym j) o) | inr j ↦ inr (subst (λ z. On r (class_at rep z)) (sym j) o) ];

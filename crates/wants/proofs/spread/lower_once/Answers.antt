@@ -9,14 +9,14 @@ use Rattle.wants.proofs.spread.lower_once.Goals.{else-reaches, then-reaches}
 pub loop-c-preserved-then-reaches-2 : goal.loop-c-preserved-then-reaches-2
 loop-c-preserved-then-reaches-2 c =
     let d : ℕ = c.loop-c.c - 1 in
-    let half : Half (table_in c.args.table.now) c.requires.class_row c.args.only.now c.args.flag c.args.start c.if-reaches.m c.if-reaches.changed d =
+    let half : Half (table_in c.args.table.now) c.requires.class_row c.args.only.now c.args.flag c.args.marks.now c.if-reaches.marks c.if-reaches.changed d =
     elim c.if-reaches.branch [
-      | then-reaches w ↦ rw (w.m-is, w.changed-is) (half_mark (table_in c.args.table.now) c.requires.class_row c.args.only.now c.args.flag c.args.start d c.loop-c.c
+      | then-reaches w ↦ rw (w.marks-is, w.changed-is) (half_mark (table_in c.args.table.now) c.requires.class_row c.args.only.now c.args.flag c.args.marks.now d c.loop-c.c
           (omega arith) c.ends-e.result.left c.ends-e.result.right c.ends-e.ensures c.loop-c.invariant.0 (c.reaches.ensures.yes w.if-reaches.true))
-      | else-reaches w ↦ rw (w.m-is, w.changed-is) (half_skip (table_in c.args.table.now) c.requires.class_row c.args.only.now c.args.flag c.args.start d c.loop-c.c
+      | else-reaches w ↦ rw (w.marks-is, w.changed-is) (half_skip (table_in c.args.table.now) c.requires.class_row c.args.only.now c.args.flag c.args.marks.now d c.loop-c.c
           (omega arith) c.ends-e.result.left c.ends-e.result.right c.ends-e.ensures c.loop-c.invariant.0 (c.reaches.ensures.no w.if-reaches.false))
     ] in (
-      lowering_mark (table_in c.args.table.now) c.requires.class_row c.args.only.now c.args.flag c.args.start d c.ends-e.result.left c.ends-e.result.right
+      lowering_mark (table_in c.args.table.now) c.requires.class_row c.args.only.now c.args.flag c.args.marks.now d c.ends-e.result.left c.ends-e.result.right
           c.ends-e.ensures half (c.reaches-in-loop-c.ensures.yes c.if-reaches-2.true),
       omega arith,
     )
@@ -24,14 +24,14 @@ loop-c-preserved-then-reaches-2 c =
 pub loop-c-preserved : goal.loop-c-preserved
 loop-c-preserved c =
     let d : ℕ = c.loop-c.c - 1 in
-    let half : Half (table_in c.args.table.now) c.requires.class_row c.args.only.now c.args.flag c.args.start c.if-reaches.m c.if-reaches.changed d =
+    let half : Half (table_in c.args.table.now) c.requires.class_row c.args.only.now c.args.flag c.args.marks.now c.if-reaches.marks c.if-reaches.changed d =
     elim c.if-reaches.branch [
-      | then-reaches w ↦ rw (w.m-is, w.changed-is) (half_mark (table_in c.args.table.now) c.requires.class_row c.args.only.now c.args.flag c.args.start d c.loop-c.c
+      | then-reaches w ↦ rw (w.marks-is, w.changed-is) (half_mark (table_in c.args.table.now) c.requires.class_row c.args.only.now c.args.flag c.args.marks.now d c.loop-c.c
           (omega arith) c.ends-e.result.left c.ends-e.result.right c.ends-e.ensures c.loop-c.invariant.0 (c.reaches.ensures.yes w.if-reaches.true))
-      | else-reaches w ↦ rw (w.m-is, w.changed-is) (half_skip (table_in c.args.table.now) c.requires.class_row c.args.only.now c.args.flag c.args.start d c.loop-c.c
+      | else-reaches w ↦ rw (w.marks-is, w.changed-is) (half_skip (table_in c.args.table.now) c.requires.class_row c.args.only.now c.args.flag c.args.marks.now d c.loop-c.c
           (omega arith) c.ends-e.result.left c.ends-e.result.right c.ends-e.ensures c.loop-c.invariant.0 (c.reaches.ensures.no w.if-reaches.false))
     ] in (
-      lowering_skip (table_in c.args.table.now) c.requires.class_row c.args.only.now c.args.flag c.args.start d c.ends-e.result.left c.ends-e.result.right
+      lowering_skip (table_in c.args.table.now) c.requires.class_row c.args.only.now c.args.flag c.args.marks.now d c.ends-e.result.left c.ends-e.result.right
           c.ends-e.ensures half (c.reaches-in-loop-c.ensures.no c.if-reaches-2.false),
       omega arith,
     )

@@ -5,7 +5,7 @@ use Rattle.wants.specs.Spread.{Lowering}
 use Rattle.wants.proofs.spread.lower_once.Given as goal
 
 abbrev pub invariant-loop-c : goal.invariant-loop-c
-invariant-loop-c l = (Lowering (table_in l.table) l.rep l.only l.flag l.initial.m l.m l.changed l.n l.c) × (l.c ≤ l.n)
+invariant-loop-c l = (Lowering (table_in l.table) l.rep l.only l.flag l.initial.marks l.marks l.changed l.n l.c) × (l.c ≤ l.n)
 
 abbrev pub decreases-loop-c : goal.decreases-loop-c
 decreases-loop-c l = l.c

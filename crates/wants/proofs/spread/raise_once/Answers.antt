@@ -6,12 +6,10 @@ use Rattle.wants.proofs.spread.raise_once.Goals as goal
 use Rattle.wants.proofs.spread.raise_once.Goals.{else-raises, then-raises}
 
 pub loop-c-preserved : goal.loop-c-preserved
-loop-c-preserved c = (
-  elim c.if-raises.branch [
-    | then-raises w ↦ rw (w.m-is, w.changed-is) (raising_mark (table_in c.args.table.now) c.args.rep.now c.args.start c.loop-c.c c.loop-c.invariant.0
-        (omega (arith, c.requires.table_words.few)) (c.raises.ensures.yes w.if-raises.true))
-    | else-raises w ↦ rw (w.m-is, w.changed-is) (raising_skip (table_in c.args.table.now) c.args.rep.now c.args.start c.loop-c.c c.loop-c.invariant.0
-        (c.raises.ensures.no w.if-raises.false))
-  ],
-  omega arith,
-)
+loop-c-preserved c =
+    elim c.if-raises.branch [
+      | then-raises w ↦ rw (w.marks-is, w.changed-is) (raising_mark (table_in c.args.table.now) c.args.rep.now c.args.marks.now c.loop-c.c c.loop-c.invariant
+          (omega (arith, c.requires.table_words.few)) (c.raises.ensures.yes w.if-raises.true))
+      | else-raises w ↦ rw (w.marks-is, w.changed-is) (raising_skip (table_in c.args.table.now) c.args.rep.now c.args.marks.now c.loop-c.c c.loop-c.invariant
+          (c.raises.ensures.no w.if-raises.false))
+    ]
