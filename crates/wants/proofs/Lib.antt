@@ -1,4 +1,5 @@
 pub mod Rowing
+pub mod PickLaws
 pub mod StartLaws
 pub mod SpreadLaws
 pub mod SetLaws

@@ -6,4 +6,4 @@ pub mod sets;
 mod spread;
 mod starts;
 
-pub use starts::{Pick, bares, ends, free_at};
+pub use starts::{bares, ends, free_at};

@@ -1,7 +1,7 @@
--- The invariant: the row marks exactly the bare cells below c.
-use native.Mathlib.Omega.{arith}
-use Rattle.wants.proofs.StartLaws.{bare_none}
+-- A cell is picked if it is bare.
+use borrow.Author.Rules.{rules}
+use Rattle.wants.proofs.StartLaws.{bares_picks}
 use Rattle.wants.proofs.starts.bares.Goals as goal
 
-pub loop-c-init : goal.loop-c-init
-loop-c-init c = (bare_none, omega arith)
+pub returns : goal.returns
+returns c = bares_picks (λ d k h p. search rules) c.picked.ensures

@@ -1,10 +1,7 @@
--- The invariant: the row has the variables below c that are seen. What is seen stands for its class.
-use native.Mathlib.Omega.{arith}
+-- A cell is picked if it is free and seen.
 use borrow.Author.Rules.{rules}
-use Rattle.model.specs.Stored.{table_in}
-use Rattle.knowledge.proofs.Grow.{none_marked}
-use Rattle.wants.proofs.StartLaws.{free_none}
+use Rattle.wants.proofs.StartLaws.{free_picks}
 use Rattle.wants.proofs.starts.free_seen.Goals as goal
 
-pub loop-c-init : goal.loop-c-init
-loop-c-init c = (free_none (table_in c.args.table.now) c.args.rep.now c.args.seen.now (search rules) none_marked, omega arith)
+pub returns : goal.returns
+returns c = free_picks c.requires.mark_row (λ d k h p. search rules) c.picked.ensures
