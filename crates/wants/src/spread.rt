@@ -34,9 +34,7 @@ fn lower_once(
     ensures { Lowering (table_in table.now) rep.now only.now flag marks.old marks.new result n 0 }
 {
     let mut changed = false;
-    let mut c = n;
-    while 0 < c {
-        c -= 1;
+    for c in (0..n).rev() {
         if marks[c] != 1 {
             continue;
         }
