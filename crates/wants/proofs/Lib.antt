@@ -1,4 +1,3 @@
-pub mod Rowing
 pub mod PickLaws
 pub mod StartLaws
 pub mod SpreadLaws

@@ -17,36 +17,33 @@ use Rattle.theory.specs.Decides.{Decides}
 use Rattle.theory.proofs.MarkRows.{set_kept, set_on}
 use Rattle.wants.specs.Starts.{Wider, Picks}
 
-module _ (P : ℕ → Option ℕ → Type 0) (m : List ℕ) where
-  pub picks_none : length m ≡ 129 → Picks P m m 0
-  picks_none l = record { long = l; kept = λ c o. o; told = λ d h. absurd (omega arith); only = λ c. inl refl }
+-- One more turn of the loop.
+module _ {P : ℕ → Option ℕ → Type 0} {m r : List ℕ} {c : ℕ} (w : Picks P m r c) {k : Option ℕ} (p : P c k) where
+  pub picks_mark : {t : ℕ} → k ≡ Some t → t ≤ 128 → Picks P m (set r t 1) (c + 1)
+  picks_mark {t} e l =
+      let h : t < length r = omega (arith, w.long) in
+      record {
+        long = length-set r t 1 ∙ w.long;
+        kept = λ d o. set_kept r t h d (w.kept d o);
+        told = below_more (λ d. (k : Option ℕ) × P d k × ((i : ℕ) → k ≡ Some i → On (set r t 1) i)) c
+            (λ d l. let (j, q, o) = w.told d l in (j, q, λ i z. set_kept r t h i (o i z)))
+            (k, p, λ i z. let same : t ≡ i = cc in subst (On (set r t 1)) same (set_on r t h));
+        only = λ d. elim (eq? d t) [
+          | inl i ↦ inr (subst (On (set r t 1)) (sym i) (set_on r t h), (c, omega arith, subst (P c) (e ∙ ap Some (sym i)) p))
+          | inr n ↦ elim (w.only d) [
+            | inl i ↦ inl (get_or-set_other r t d 1 0 n ∙ i)
+            | inr x ↦ (let (o, (q, i, y)) = x in inr (set_kept r t h d o, (q, omega arith, y)))
+          ]
+        ];
+      }
 
-  module _ (r : List ℕ) (c : ℕ) (w : Picks P m r c) where
-    pub picks_mark : (k : Option ℕ) (t : ℕ) → P c k → k ≡ Some t → t ≤ 128 → Picks P m (set r t 1) (c + 1)
-    picks_mark k t p e l =
-        let h : t < length r = omega (arith, w.long) in
-        record {
-          long = length-set r t 1 ∙ w.long;
-          kept = λ d o. set_kept r t h d (w.kept d o);
-          told = below_more (λ d. (k : Option ℕ) × P d k × ((t' : ℕ) → k ≡ Some t' → On (set r t 1) t')) c
-              (λ d l. let (j, q, o) = w.told d l in (j, q, λ t' i. set_kept r t h t' (o t' i)))
-              (k, p, λ t' i. let same : t ≡ t' = cc in subst (On (set r t 1)) same (set_on r t h));
-          only = λ d. elim (eq? d t) [
-            | inl i ↦ inr (subst (On (set r t 1)) (sym i) (set_on r t h), (c, omega arith, subst (P c) (e ∙ ap Some (sym i)) p))
-            | inr n ↦ elim (w.only d) [
-              | inl i ↦ inl (get_or-set_other r t d 1 0 n ∙ i)
-              | inr x ↦ (let (o, (q, i, y)) = x in inr (set_kept r t h d o, (q, omega arith, y)))
-            ]
-          ];
-        }
-
-    pub picks_skip : (k : Option ℕ) → P c k → k ≡ None → Picks P m r (c + 1)
-    picks_skip k p e = record {
-      long = w.long;
-      kept = w.kept;
-      told = below_more (λ d. (k : Option ℕ) × P d k × ((t : ℕ) → k ≡ Some t → On r t)) c w.told (k, p, λ t i. absurd (cc));
-      only = λ d. elim (w.only d) [ inl i ↦ inl i | inr x ↦ (let (o, (q, i, y)) = x in inr (o, (q, omega arith, y))) ];
-    }
+  pub picks_skip : k ≡ None → Picks P m r (c + 1)
+  picks_skip e = record {
+    long = w.long;
+    kept = w.kept;
+    told = below_more (λ d. (k : Option ℕ) × P d k × ((t : ℕ) → k ≡ Some t → On r t)) c w.told (k, p, λ t i. absurd (cc));
+    only = λ d. elim (w.only d) [ inl i ↦ inl i | inr x ↦ (let (o, (q, i, y)) = x in inr (o, (q, omega arith, y))) ];
+  }
 
 -- Marks that stand for their class, and picks that do.
 pub picks_wider : {P : ℕ → Option ℕ → Type 0} {rep m r : List ℕ} {n : ℕ} → ((c t : ℕ) → c < n → P c (Some t) → class_at rep t ≡ t) → MarkRow rep m → Picks P m r n → Wider rep m r

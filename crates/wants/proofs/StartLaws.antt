@@ -31,7 +31,6 @@ use Rattle.knowledge.proofs.ByKind.{makes_ends}
 use Rattle.knowledge.proofs.Grow.{set_bits}
 use Rattle.theory.proofs.MarkRows.{no_mark, set_kept, set_on, set_cases}
 use Rattle.wants.specs.Starts.{Wider, Picks, EndsAt, BareAt, BareTo, LacksKey, KeyTold, Keyed, FreeAt, FreeSeen, DueTold, Due, Joint}
-use Rattle.wants.proofs.Rowing.{wider_none, wider_mark}
 use Rattle.wants.proofs.PickLaws.{picks_wider, picks_all, picks_only}
 
 -- ---- the classes of parts
@@ -60,11 +59,11 @@ bare_kin (ONE g a) (x, p) s = Kin.ones
 bare_kin (TWO Two.Pair l r) (x, p) s = absurd (s l r refl)
 bare_kin (TWO Two.Seal l r) (x, p) s = Kin.twos Level.seals
 
-module _ (T : Table) (rep seens builts : List ℕ) (c : ℕ) where
+module _ {T : Table} {rep seens builts : List ℕ} {c : ℕ} where
   pub bare_unkin : (Kin (T c) (T c) → ⊥) → BareAt T rep seens builts c → ⊥
   bare_unkin n w = n (bare_kin (T c) w.part w.shut)
 
-  module _ (a b : ℕ) (e : EndsAt T rep c a b) (k : Kin (T c) (T c)) where
+  module _ {a b : ℕ} (e : EndsAt T rep c a b) (k : Kin (T c) (T c)) where
     bare_made : On builts a → On builts b → BareAt T rep seens builts c → ⊥
     bare_made x y w =
         let (i, j, m) = kin_makes k in
@@ -129,7 +128,7 @@ locked_seal {k} {k'} {o} {b} {j} is x e = go (subst (Opens k) e x)
     go : Opens k (opening.Locked b j) → k' ≡ SE b j
     go (locked z) = sym is ∙ z
 
-module _ (T : Table) (rep seens builts : List ℕ) (c : ℕ) where
+module _ {T : Table} {rep seens builts : List ℕ} {c : ℕ} where
   pub key_unseen : (On seens c → ⊥) → KeyTold T rep seens builts c None
   key_unseen n = KeyTold.nothing (λ k w. n w.whole)
 
@@ -161,8 +160,8 @@ module _ (T : Table) (rep seens builts : List ℕ) (c : ℕ) where
 pub keyed_picks : {P : ℕ → Option ℕ → Type 0} {n : ℕ} {T : Table} {rep seens builts m r : List ℕ} → ClassRow n rep → MarkRow rep m →
     ((c : ℕ) (k : Option ℕ) → c < n → P c k → KeyTold T rep seens builts c k) → Picks P m r n → Keyed T rep seens builts m r n
 keyed_picks {T = T} {rep} {seens} {builts} row marks told w = record {
-  wider = picks_wider (λ c t h p. (key_low T rep seens builts c row (told c (Some t) h p) refl).1) marks w;
-  keys = λ c k h x. (let (j, p, o) = w.told c h in o (class_at rep k) (key_told T rep seens builts c (told c j h p) x));
+  wider = picks_wider (λ c t h p. (key_low row (told c (Some t) h p) refl).1) marks w;
+  keys = λ c k h x. (let (j, p, o) = w.told c h in o (class_at rep k) (key_told (told c j h p) x));
 }
 
 -- ---- free cells that are seen
@@ -184,7 +183,7 @@ free_picks row told w = record {
 pub fewer_events : {n : ℕ} {run : List ℕ} {p count : ℕ} → RunWords n run count → p ≤ count → RunWords n run p
 fewer_events w l = record { few = omega (arith, w.few); below = λ q h. w.below q (omega arith) }
 
-module _ (rep held : List ℕ) {e : Event} {x : ℕ} where
+module _ {rep held : List ℕ} {e : Event} {x : ℕ} where
   pub due_learnt : e ≡ LN x → DueTold rep held e None
   due_learnt i = DueTold.nothing (λ y j. clash (cc))
 

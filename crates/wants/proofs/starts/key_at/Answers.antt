@@ -7,13 +7,13 @@ use Rattle.wants.proofs.StartLaws.{unsealed, locked_seal, key_unseen, key_unseal
 use Rattle.wants.proofs.starts.key_at.Goals as goal
 
 pub returns-then-seen-c-ne1 : goal.returns-then-seen-c-ne1
-returns-then-seen-c-ne1 c = key_unseen (table_in c.args.table.now) c.args.rep.now c.args.seen.now c.args.built.now c.args.c c.if-seen-c-ne1.true
+returns-then-seen-c-ne1 c = key_unseen c.if-seen-c-ne1.true
 
 pub returns-in-Shut : goal.returns-in-Shut
 returns-in-Shut c =
-    key_unsealed (table_in c.args.table.now) c.args.rep.now c.args.seen.now c.args.built.now c.args.c (unsealed c.cell_at.ensures c.opens.ensures c.in-Shut.is)
+    key_unsealed (unsealed c.cell_at.ensures c.opens.ensures c.in-Shut.is)
 
 pub returns-in-Locked : goal.returns-in-Locked
 returns-in-Locked c =
-    rw c.then_some.ensures (key_pick (table_in c.args.table.now) c.args.rep.now c.args.seen.now c.args.built.now c.args.c (locked_seal c.cell_at.ensures c.opens.ensures c.in-Locked.is)
+    rw c.then_some.ensures (key_pick (locked_seal c.cell_at.ensures c.opens.ensures c.in-Locked.is)
     (c.class_of-k.ensures ∙ ap (class_at c.args.rep.now) c.cell.ensures) _ (decides_eqb _ 1 (λ x. x) (λ x. x)))
