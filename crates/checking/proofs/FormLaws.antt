@@ -6,6 +6,7 @@ use Prim.Native.Nat.{ℕ, ◌+◌, ◌≤◌, ◌<◌}
 use native.Mathlib.Omega.{arith}
 use native.Mathlib.Decide.{dec_lt}
 use lib.Dec.{eqb, ltb}
+use Rattle.std.specs.Prelude.{Option, Some, None, MatchOption}
 use lib.ListN.{length, get_or, set, length-set, get_or-eq_default}
 use lib.Seq.{get_or-set_same, get_or-set_other}
 use borrow.Author.Count.{below_more}
@@ -15,7 +16,7 @@ use Rattle.model.specs.Values.{Entry, bound, own, itself}
 use Rattle.model.proofs.Rows.{table_at}
 use Rattle.theory.specs.Decides.{Decides}
 use Rattle.theory.proofs.Decides.{decides_no, decides_eqb, decides_iff, decides_not}
-use Rattle.checking.specs.Form.{Owned}
+use Rattle.checking.specs.Form.{FirstBad, Owned}
 
 -- ---- one entry
 
@@ -43,6 +44,12 @@ module _ (T : Table) (n c x : ℕ) where
     -- and nothing else.
     pub fits_none : (x < n → ⊥) → Decides false (Entry T n c x)
     fits_none far = decides_no (λ e. far (entry_bound v ne e).0)
+
+-- The first cell that does not fit has the first entry of bad form.
+pub first_bad : (T : Table) (n : ℕ) (list : List ℕ) (r : Option ℕ) → MatchOption r ((d : ℕ) → 0 ≤ d → d < n → Entry T n d (get_or list d 0))
+    (λ c. (0 ≤ c) × (c < n) × (Entry T n c (get_or list c 0) → ⊥) × ((d : ℕ) → 0 ≤ d → d < c → Entry T n d (get_or list d 0))) → FirstBad T n list r
+first_bad T n list (Some c) (z, h, bad, good) = (h, λ d l. good d (omega arith) l, bad)
+first_bad T n list None all = λ d l. all d (omega arith) l
 
 -- ---- his own name
 

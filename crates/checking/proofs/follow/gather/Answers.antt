@@ -6,16 +6,13 @@ use Rattle.checking.proofs.FollowLaws.{gathering_none, gathering_more, gathering
 use Rattle.checking.proofs.follow.gather.Goals as goal
 
 pub loop-c-init : goal.loop-c-init
-loop-c-init c = (gathering_none _ _ _ _ c.start-rep.ensures, omega arith)
+loop-c-init c = gathering_none _ _ _ _ c.start-rep.ensures
 
 pub loop-c-preserved : goal.loop-c-preserved
-loop-c-preserved c = (
-  gathering_more c.args.n (table_in c.args.table.now) c.args.list.now c.loop-c.rep c.loop-c.c c.loop-c.invariant.0 c.bind_entry-bound.result
-      c.bind_entry-bound.ensures,
-  omega arith,
-)
+loop-c-preserved c =
+    gathering_more c.args.n (table_in c.args.table.now) c.args.list.now c.loop-c.rep c.loop-c.c c.loop-c.invariant c.bind_entry-bound.result c.bind_entry-bound.ensures
 
 pub returns : goal.returns
 returns c =
-    gathering_all c.args.n (table_in c.args.table.now) c.args.list.now c.loop-c.rep c.loop-c.c c.loop-c.invariant.0
+    gathering_all c.args.n (table_in c.args.table.now) c.args.list.now c.loop-c.rep c.loop-c.c c.loop-c.invariant
     (λ v i. let h = rows_var c.requires.table_words v i in omega arith)
