@@ -3,20 +3,16 @@ use mathlib.Core.Path.{◌≡◌, sym, subst}
 use mathlib.Core.List.{List}
 use mathlib.Core.Option.{some}
 use Prim.Native.Nat.{ℕ}
-use native.Mathlib.Omega.{arith}
 use lib.ListN.{get_or}
-use Rattle.model.specs.Case.{SE, MK, Table, Part, in_left}
-use Rattle.model.specs.Stored.{table_in, event_in, aim, run_in}
+use Rattle.model.specs.Case.{MK, Table}
+use Rattle.model.specs.Stored.{table_in, event_in, run_in}
 use Rattle.model.proofs.Stored.{run_at, run_below}
 use Rattle.theory.specs.Cells.{TableWords, Opening, class_at, On}
 use Rattle.theory.specs.Cut.{Sets}
 use Rattle.theory.specs.Sweep.{Swept}
 use Rattle.theory.proofs.MarkRows.{on?}
-use Rattle.theory.proofs.Rows.{rows_var, rows_part}
-use Rattle.knowledge.specs.Knowledge.{ClassRow, MarkRow}
-use Rattle.wants.specs.Starts.{Wider, Keyed, FreeSeen, Due, Joint}
-use Rattle.wants.specs.Spread.{Lowered, Raised}
-use Rattle.wants.specs.Sets.{NeedRow, HeldRow, OverRow, WantedRow}
+use Rattle.knowledge.specs.Knowledge.{ClassRow}
+use Rattle.wants.specs.Sets.{NeedRow, HeldRow, OverRow}
 
 -- What is to be made at q, by the word there.
 make_at : (count : ℕ) (run : List ℕ) (q : ℕ) {t : ℕ} → run_in count run q ≡ some (MK t) → event_in (get_or run q 0) ≡ MK t

@@ -5,7 +5,7 @@ use mathlib.Core.Bool.{Bool, true, false, true≢false}
 use mathlib.Core.List.{List}
 use Prim.Native.Nat.{ℕ, ◌+◌, ◌≤◌}
 use native.Mathlib.Omega.{arith}
-use lib.ListN.{length, get_or, set}
+use lib.ListN.{get_or, set}
 use borrow.Author.Count.{below_more}
 use Rattle.model.specs.Case.{Cell, Table, Part, in_arg, in_left, in_right}
 use Rattle.model.specs.Stored.{table_in}

@@ -3,10 +3,9 @@ use mathlib.Core.Path.{◌≡◌, refl, sym, ◌∙◌, ap, subst}
 use mathlib.Core.Logic.{◌⊎◌, inl, inr}
 use mathlib.Core.Bool.{Bool, true, false, not}
 use mathlib.Core.List.{List}
-use Prim.Native.Nat.{ℕ, ◌+◌, ◌≤◌, ◌<◌}
+use Prim.Native.Nat.{ℕ, ◌≤◌, ◌<◌}
 use native.Mathlib.Omega.{arith}
-use lib.ListN.{length, get_or, set, length-set, replicate, length-replicate}
-use borrow.Author.Count.{below_more}
+use lib.ListN.{get_or, replicate}
 use Rattle.std.specs.Prelude.{Option, Some, None}
 use Rattle.std.specs.Bool.{then_some}
 use Rattle.model.specs.Message.{App, Two}
@@ -28,9 +27,8 @@ use Rattle.cells.specs.declared.Opening.TheVariants as opening
 use Rattle.knowledge.specs.Knowledge.{ClassRow, MarkRow}
 use Rattle.knowledge.specs.Sweeps.{left_part, right_part, left_class, right_class}
 use Rattle.knowledge.proofs.ByKind.{makes_ends}
-use Rattle.knowledge.proofs.Grow.{set_bits}
-use Rattle.theory.proofs.MarkRows.{no_mark, set_kept, set_on, set_cases}
-use Rattle.wants.specs.Starts.{Wider, Picks, EndsAt, BareAt, BareTo, LacksKey, KeyTold, Keyed, FreeAt, FreeSeen, DueTold, Due, Joint}
+use Rattle.theory.proofs.MarkRows.{no_mark}
+use Rattle.wants.specs.Starts.{Picks, EndsAt, BareAt, BareTo, LacksKey, KeyTold, Keyed, FreeAt, FreeSeen, DueTold, Due, Joint}
 use Rattle.wants.proofs.PickLaws.{picks_wider, picks_all, picks_only}
 
 -- ---- the classes of parts

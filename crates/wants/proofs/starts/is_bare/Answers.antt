@@ -1,6 +1,5 @@
 -- Where c is not seen, or not kin to itself, it is not bare; else it is if a part is not built.
 use borrow.Author.Tests.{eqb-true, eqb-false, not-false, not-true}
-use Rattle.model.specs.Stored.{table_in}
 use Rattle.theory.proofs.Decides.{decides_no}
 use Rattle.wants.proofs.StartLaws.{bare_unkin, bare_decides}
 use Rattle.wants.proofs.starts.is_bare.Goals as goal

@@ -1,6 +1,5 @@
 -- A case for each test.
 use mathlib.Core.Path.{◌∙◌, ap}
-use Rattle.model.specs.Stored.{table_in}
 use Rattle.theory.specs.Cells.{class_at}
 use Rattle.theory.proofs.Decides.{decides_eqb}
 use Rattle.wants.proofs.StartLaws.{unsealed, locked_seal, key_unseen, key_unsealed, key_pick}
