@@ -9,14 +9,7 @@ use cells::{Event, Run, Table, event_at};
 use knowledge::heard::learnt_before;
 
 // Is what the event at p asks for built from what was learnt before it? An LN asks for nothing.
-fn made_at(
-    table: &Table,
-    n: usize,
-    rep: &[u8; 129],
-    run: &Run,
-    count: usize,
-    p: usize,
-) -> bool
+fn made_at(table: &Table, n: usize, rep: &[u8; 129], run: &Run, count: usize, p: usize) -> bool
     requires table_words { TableWords n table.now }
     requires class_row { ClassRow n rep.now }
     requires run_words { RunWords n run.now count }
@@ -34,13 +27,7 @@ fn made_at(
 }
 
 // Is every MK cell built from what was learnt before it?
-pub fn all_made(
-    table: &Table,
-    n: usize,
-    rep: &[u8; 129],
-    run: &Run,
-    count: usize,
-) -> bool
+pub fn all_made(table: &Table, n: usize, rep: &[u8; 129], run: &Run, count: usize) -> bool
     requires table_words { TableWords n table.now }
     requires class_row { ClassRow n rep.now }
     requires run_words { RunWords n run.now count }
