@@ -1,22 +1,13 @@
 -- The form of an entry, and his own name put for the entries 255.
-use mathlib.Core.Path.{◌≡◌, refl, ◌∙◌, ap}
-use mathlib.Core.Bool.{Bool, false, not, cond}
+use mathlib.Core.Path.{◌≡◌}
 use mathlib.Core.List.{List}
-use Prim.Native.Nat.{ℕ, ◌+◌, ◌≤◌, ◌<◌}
+use Prim.Native.Nat.{ℕ, ◌≤◌, ◌<◌}
 use native.Mathlib.Omega.{arith}
-use native.Mathlib.Decide.{dec_lt}
-use lib.Dec.{eqb, ltb}
 use Rattle.std.specs.Prelude.{Option, Some, None, MatchOption}
-use lib.ListN.{length, get_or, set, length-set, get_or-eq_default}
-use lib.Seq.{get_or-set_same, get_or-set_other}
-use borrow.Author.Count.{below_more}
+use lib.ListN.{get_or}
 use Rattle.model.specs.Case.{AT, VA, Table}
-use Rattle.model.specs.Stored.{cell_in, table_in}
 use Rattle.model.specs.Values.{Entry, bound, own, itself}
-use Rattle.model.proofs.Rows.{table_at}
-use Rattle.theory.specs.Decides.{Decides}
-use Rattle.theory.proofs.Decides.{decides_no, decides_eqb, decides_iff, decides_not}
-use Rattle.checking.specs.Form.{FirstBad, Owned}
+use Rattle.checking.specs.Form.{FirstBad}
 
 -- ---- one entry
 
