@@ -7,10 +7,6 @@ pub returns-then-g : goal.returns-then-g
 returns-then-g c =
     record { rows = c.requires.grant_rows; marks = record { more = more_none c.requires.grant_rows.seen_marked c.requires.grant_rows.built_marked; still = c.requires.grant_rows.still c.if-g.true c.args.p }; bare = c.requires.grant_rows.bares c.if-g.true }
 
-pub closed-m-requires : goal.closed-m-requires
-closed-m-requires c =
-    record { table_words = c.requires.table_words; kept = c.requires.kept; run_words = c.requires.run_words; mark_row = c.requires.grant_rows.seen_marked; mark_row_2 = c.requires.grant_rows.built_marked }
-
 pub bares-requires : goal.bares-requires
 bares-requires c = record { table_words = c.requires.table_words; class_row = kept_row c.requires.table_words c.requires.kept }
 

@@ -6,7 +6,7 @@ use borrow.Author.Rules.{rules}
 use Rattle.model.specs.Stored.{table_in}
 use Rattle.knowledge.proofs.ClassRows.{kept_row}
 use Rattle.granting.specs.Leaks.{LeakingRow}
-use Rattle.granting.proofs.LeakLaws.{row_none, row_unkin, row_mark, row_skip, leak_low}
+use Rattle.granting.proofs.LeakLaws.{row_unkin, row_mark, row_skip, leak_low}
 use Rattle.granting.proofs.leaks.leak_row.Goals as goal
 use Rattle.granting.proofs.leaks.leak_row.Goals.{in-Mark, in_default}
 
@@ -18,20 +18,8 @@ returns-then-not-kin_at c =
 pub ends-e-requires : goal.ends-e-requires
 ends-e-requires c = record { table_words = c.requires.table_words; class_row = kept_row c.requires.table_words c.requires.kept; c_lt_n = c.requires.c_lt_n }
 
-pub loop-d-init : goal.loop-d-init
-loop-d-init c = (row_none (table_in c.args.table.now) c.args.rep.now c.args.held.now c.args.c c.args.start (search rules) c.requires.mark_row, omega arith)
-
-pub leak_at-p-requires : goal.leak_at-p-requires
-leak_at-p-requires c = record { table_words = c.requires.table_words; kept = c.requires.kept; c_lt_n = c.requires.c_lt_n; d_lt_n = omega arith; ends_at = c.ends-e.ensures }
-
 pub bounds-m-x : goal.bounds-m-x
 bounds-m-x c = omega (arith, leak_low (table_in c.args.table.now) c.args.rep.now c.args.held.now c.args.c c.args.start c.loop-d.d c.leak_at-p.ensures c.in-Mark.is)
-
-pub overflow_add-d : goal.overflow_add-d
-overflow_add-d c = omega (arith, c.requires.table_words.few)
-
-pub loop-d-smaller : goal.loop-d-smaller
-loop-d-smaller c = omega arith
 
 pub loop-d-preserved : goal.loop-d-preserved
 loop-d-preserved c = (

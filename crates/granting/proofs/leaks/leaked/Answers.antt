@@ -1,7 +1,5 @@
 -- The sets, and what leaks by them.
-use Rattle.model.specs.Stored.{table_in}
 use Rattle.knowledge.proofs.ClassRows.{kept_row}
-use Rattle.granting.proofs.LeakLaws.{leaked_all}
 use Rattle.granting.proofs.leaks.leaked.Goals as goal
 
 pub holds-held-requires : goal.holds-held-requires
@@ -9,6 +7,3 @@ holds-held-requires c = record { table_words = c.requires.table_words; class_row
 
 pub over-top-requires : goal.over-top-requires
 over-top-requires c = record { table_words = c.requires.table_words; class_row = kept_row c.requires.table_words c.requires.kept; run_words = c.requires.run_words }
-
-pub returns : goal.returns
-returns c = leaked_all {T = table_in c.args.table.now} c.holds-held.ensures c.over-top.ensures c.leak.ensures
