@@ -65,10 +65,10 @@ module _ {T : Table} {n : ℕ} {rep run : List ℕ} {p : ℕ} {s b s' b' : List 
   }
 
   module _ (ls : length s ≡ 129) (ls' : length s' ≡ 129) (lb : length b ≡ 129) (lb' : length b' ≡ 129) {need b₂ : List ℕ} {ch₂ : Bool} (g : Granting T n rep need s' b' b₂ ch₂ n) where
-    pub rounded_grant : ch₂ ≡ true → Rounded T n rep run p s b s' b₂ true
+    pub rounded_grant : ch₂ ≡ true → Rounded T n rep run p s b s' b₂ ch₂
     rounded_grant i = record {
       more = record { seen_marked = t.seen_marked; built_marked = g.grown.marked; seen_kept = t.seen_kept; built_kept = λ c o. g.grown.kept c (t.built_kept c o) };
-      still = λ j. absurd (true≢false j);
+      still = λ j. absurd (true≢false (sym i ∙ j));
       moved = λ j. omega (arith, missing_kept s s' (ls ∙ sym ls') t.seen_kept, missing_kept b b' (lb ∙ sym lb') t.built_kept, g.grown.moved i);
     }
 

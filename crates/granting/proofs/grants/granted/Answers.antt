@@ -14,11 +14,11 @@ pub returns : goal.returns
 returns c =
     record {
       rows = record {
-        seen_marked = c.closed-m.ensures.more.seen_marked;
-        built_marked = c.closed-m.ensures.more.built_marked;
-        still = λ e. calm_still c.requires.table_words (c.is_calm.ensures e) c.closed-m.ensures.still;
+        seen_marked = c.closed.ensures.more.seen_marked;
+        built_marked = c.closed.ensures.more.built_marked;
+        still = λ e. calm_still c.requires.table_words (c.is_calm.ensures e) c.closed.ensures.still;
         bares = λ _. c.bares.ensures;
       };
-      marks = c.closed-m.ensures;
+      marks = c.closed.ensures;
       bare = c.bares.ensures;
     }

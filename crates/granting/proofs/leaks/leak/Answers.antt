@@ -1,15 +1,12 @@
--- The invariant: nothing leaks at the cells of over below c.
-use native.Mathlib.Omega.{arith}
-use Rattle.model.specs.Stored.{table_in}
+-- The invariant: nothing is marked, and nothing leaks at the cells of over below c.
 use Rattle.granting.proofs.LeakLaws.{quiet_skip, quiet_row}
 use Rattle.granting.proofs.leaks.leak.Goals as goal
-use Rattle.granting.proofs.leaks.leak.Goals.{else-over-c-eq1, then-over-c-eq1+else-s}
+use Rattle.granting.proofs.leaks.leak.Goals.{else-over-c-eq1-via-then-over-c-eq1+else-leak_row, else-over-c-eq1-via-else-over-c-eq1}
 
 pub loop-c-preserved : goal.loop-c-preserved
-loop-c-preserved c = (
-  elim c.if-over-c-eq1.branch [
-    | then-over-c-eq1+else-s w ↦ quiet_row (table_in c.args.table.now) c.args.n c.args.rep.now c.args.held.now c.args.over.now c.args.start c.loop-c.c c.loop-c.invariant.0 _ _ w.leak_row-s.ensures w.if-s.false
-    | else-over-c-eq1 w ↦ quiet_skip (table_in c.args.table.now) c.args.n c.args.rep.now c.args.held.now c.args.over.now c.args.start c.loop-c.c c.loop-c.invariant.0 w.if-over-c-eq1.false
-  ],
-  omega arith,
-)
+loop-c-preserved c =
+    let (quiet, same) = c.loop-c.invariant in
+    elim c.else-over-c-eq1.branch [
+      | else-over-c-eq1-via-then-over-c-eq1+else-leak_row w ↦ rw w.seen-is (quiet_row c.args.over.now quiet same w.leak_row.ensures w.if-leak_row.false)
+      | else-over-c-eq1-via-else-over-c-eq1 w ↦ rw w.seen-is (quiet_skip c.args.over.now quiet w.if-over-c-eq1.false, same)
+    ]
