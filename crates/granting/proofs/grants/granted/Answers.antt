@@ -1,14 +1,10 @@
 -- If calm, what was granted holds; else it is closed anew.
-use Rattle.knowledge.proofs.ClassRows.{kept_row}
 use Rattle.granting.proofs.GrantLaws.{more_none, calm_still}
 use Rattle.granting.proofs.grants.granted.Goals as goal
 
 pub returns-then-g : goal.returns-then-g
 returns-then-g c =
     record { rows = c.requires.grant_rows; marks = record { more = more_none c.requires.grant_rows.seen_marked c.requires.grant_rows.built_marked; still = c.requires.grant_rows.still c.if-g.true c.args.p }; bare = c.requires.grant_rows.bares c.if-g.true }
-
-pub bares-requires : goal.bares-requires
-bares-requires c = record { table_words = c.requires.table_words; class_row = kept_row c.requires.table_words c.requires.kept }
 
 pub returns : goal.returns
 returns c =
