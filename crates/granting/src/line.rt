@@ -29,7 +29,7 @@ pub fn live_row<F: Fn(usize) -> bool>(n: usize, before: u8, live: F) -> u8
 }
 
 // A cell, and how many levels down from it are still looked at.
-#[derive(Clone, Copy)]
+#[derive(Clone, Copy, Debug, PartialEq, Eq)]
 struct Depth {
     pub cell: usize,
     pub levels: usize,
