@@ -1,72 +1,31 @@
--- What the words of cells and events show, by their kinds; two answers to one question are equal.
-use mathlib.Core.Path.{◌≡◌, refl, sym, ◌∙◌, ap, subst}
+-- Cells taken apart and held against each other, by their kinds.
+use mathlib.Core.Path.{◌≡◌, refl, sym, ap, subst}
 use mathlib.Core.Logic.{◌⊎◌, inl, inr}
-use mathlib.Core.Bool.{false}
-use Prim.Native.Nat.{ℕ, zero, suc, ◌+◌, ◌*◌}
-use native.Mathlib.Omega.{arith}
+use Prim.Native.Nat.{ℕ, ◌+◌, ◌*◌}
 use Rattle.model.specs.Message.{Two}
 use Rattle.model.specs.Case as case
 use Rattle.model.specs.Case.{AT, VA, TWO, PR, SE, AP, MK}
-use Rattle.model.specs.Stored.{cell_at, word_of, event_at, event_word}
+use Rattle.model.specs.Stored.{word_of}
 use Rattle.model.proofs.Read.{clash}
 use Rattle.theory.specs.Cells.{apps, Makes}
 use Rattle.theory.specs.Classes.{Alike, Likes}
 use Rattle.theory.specs.Level as Level
 use Rattle.theory.specs.Level.{Kin}
-use Rattle.theory.specs.Decides.{Decides}
-use Rattle.theory.proofs.Decides.{decides_no}
-use Rattle.cells.specs.Cells.{as_cell, as_event, MadeOf, Opens, Meets, none, one, two, shut, open_pair, locked, unlike, same}
+use Rattle.cells.specs.Cells.{as_cell, MadeOf, Opens, Meets, none, one, two, shut, open_pair, locked, unlike, same}
 use Rattle.cells.specs.declared.Cell.{Cell}
 use Rattle.cells.specs.declared.Cell.TheVariants as cell
 use Rattle.cells.specs.declared.Opening.{Opening}
 use Rattle.cells.specs.declared.Meeting.{Meeting}
-use Rattle.cells.specs.declared.Event.{Event}
-use Rattle.cells.specs.declared.Event.TheVariants as event
 use Rattle.cells.specs.declared.Parts.TheVariants as parts
 use Rattle.cells.specs.declared.Opening.TheVariants as opening
 use Rattle.cells.specs.declared.Meeting.TheVariants as meeting
 
--- ---- words
-
--- A kind that there is not shows his own name, or asks for it.
-pub no_cell : (k a b : ℕ) → (k ≡ 0 → ⊥) → (k ≡ 1 → ⊥) → (k ≡ 2 → ⊥) → (k ≡ 3 → ⊥) → (k ≡ 4 → ⊥) → AT 0 ≡ cell_at k a b
-no_cell zero a b n0 n1 n2 n3 n4 = absurd (n0 refl)
-no_cell (suc zero) a b n0 n1 n2 n3 n4 = absurd (n1 refl)
-no_cell (suc (suc zero)) a b n0 n1 n2 n3 n4 = absurd (n2 refl)
-no_cell (suc (suc (suc zero))) a b n0 n1 n2 n3 n4 = absurd (n3 refl)
-no_cell (suc (suc (suc (suc zero)))) a b n0 n1 n2 n3 n4 = absurd (n4 refl)
-no_cell (suc (suc (suc (suc (suc k))))) a b n0 n1 n2 n3 n4 = refl
-
-pub no_event : (k c : ℕ) → (k ≡ 0 → ⊥) → (k ≡ 1 → ⊥) → MK 128 ≡ event_at k c
-no_event zero c n0 n1 = absurd (n0 refl)
-no_event (suc zero) c n0 n1 = absurd (n1 refl)
-no_event (suc (suc k)) c n0 n1 = refl
-
-module _ {e : Event} where
-  pub word_make : {c : ℕ} → e ≡ event.Make c → c ≡ event_word (as_event e)
-  word_make x = rw x (omega arith)
-
-  pub word_learn : {c : ℕ} → e ≡ event.Learn c → 65536 + c ≡ event_word (as_event e)
-  word_learn x = rw x refl
-
 -- ---- cells taken apart
 
+pub word_variable : {k : Cell} → k ≡ cell.Variable → 1 * 65536 + 0 * 256 + 0 ≡ word_of (as_cell k)
+word_variable e = rw e refl
+
 module _ {k : Cell} where
-  pub word_name : {n : ℕ} → k ≡ cell.Atom n → n ≡ word_of (as_cell k)
-  word_name {n} e = rw e (omega arith)
-
-  pub word_variable : k ≡ cell.Variable → 1 * 65536 + 0 * 256 + 0 ≡ word_of (as_cell k)
-  word_variable e = rw e refl
-
-  pub word_pair : {l r : ℕ} → k ≡ cell.Pair l r → 2 * 65536 + l * 256 + r ≡ word_of (as_cell k)
-  word_pair e = rw e refl
-
-  pub word_seal : {b c : ℕ} → k ≡ cell.Seal b c → 3 * 65536 + b * 256 + c ≡ word_of (as_cell k)
-  word_seal e = rw e refl
-
-  pub word_apply : {f a : ℕ} → k ≡ cell.Apply f a → 4 * 65536 + f * 256 + a ≡ word_of (as_cell k)
-  word_apply e = rw e refl
-
   pub made_name : {n : ℕ} → k ≡ cell.Atom n → MadeOf (as_cell k) parts.None
   made_name e = rw e (none λ a b m. elim m [ ])
 
@@ -96,6 +55,10 @@ module _ {k : Cell} where
 
   pub opens_apply : {f a : ℕ} → k ≡ cell.Apply f a → Opens (as_cell k) opening.Shut
   opens_apply e = rw e (shut (λ l r x. clash (cc)) (λ b c x. clash (cc)))
+
+pub ruleset composing = (made_name, made_variable, made_pair, made_seal, made_apply)
+
+pub ruleset opening_up = (opens_name, opens_variable, opens_pair, opens_seal, opens_apply)
 
 -- ---- cells held against each other
 
@@ -156,10 +119,7 @@ unlike_apply c (cell.Pair x y) e h = rw e (unlike λ x. elim x [ ])
 unlike_apply c (cell.Seal x y) e h = rw e (unlike λ x. elim x [ ])
 unlike_apply c (cell.Apply g x) e h = absurd (h g x refl)
 
--- ---- variables
-
-pub no_variable : {T k : case.Cell} → k ≡ T → (k ≡ VA → ⊥) → Decides false (T ≡ VA)
-no_variable e n = decides_no λ v. n (e ∙ v)
+pub ruleset meetings = (same_name, other_name, two_pair, two_seal, one_apply, other_apply, unlike_variable, unlike_name, unlike_pair, unlike_seal, unlike_apply)
 
 -- ---- kin
 

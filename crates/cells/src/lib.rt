@@ -134,7 +134,7 @@ pub fn parts_of(c: Cell) -> Parts
 }
 
 // What he composes a cell of, if he can: today its parts. Written beside `parts_of`, as not every application has to be composed.
-#[tactic(auto, using(crate::proofs::CellLaws::made_name, crate::proofs::CellLaws::made_variable, crate::proofs::CellLaws::made_pair, crate::proofs::CellLaws::made_seal, crate::proofs::CellLaws::made_apply))]
+#[tactic(auto, using(crate::proofs::CellLaws::composing))]
 pub fn made_of(c: Cell) -> Parts
     ensures { MadeOf (as_cell c) result }
 {
@@ -146,7 +146,7 @@ pub fn made_of(c: Cell) -> Parts
 }
 
 // What a cell gives once it is seen.
-#[tactic(auto, using(crate::proofs::CellLaws::opens_name, crate::proofs::CellLaws::opens_variable, crate::proofs::CellLaws::opens_pair, crate::proofs::CellLaws::opens_seal, crate::proofs::CellLaws::opens_apply))]
+#[tactic(auto, using(crate::proofs::CellLaws::opening_up))]
 pub fn opens(c: Cell) -> Opening
     ensures { Opens (as_cell c) result }
 {
@@ -158,7 +158,7 @@ pub fn opens(c: Cell) -> Opening
 }
 
 // Two cells held against each other.
-#[tactic(auto, using(crate::proofs::CellLaws::same_name, crate::proofs::CellLaws::other_name, crate::proofs::CellLaws::two_pair, crate::proofs::CellLaws::two_seal, crate::proofs::CellLaws::one_apply, crate::proofs::CellLaws::other_apply, crate::proofs::CellLaws::unlike_variable, crate::proofs::CellLaws::unlike_name, crate::proofs::CellLaws::unlike_pair, crate::proofs::CellLaws::unlike_seal, crate::proofs::CellLaws::unlike_apply))]
+#[tactic(auto, using(crate::proofs::CellLaws::meetings))]
 pub fn meet(c: Cell, d: Cell) -> Meeting
     ensures { Meets (as_cell c) (as_cell d) result }
 {
