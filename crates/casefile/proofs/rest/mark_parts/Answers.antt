@@ -1,7 +1,7 @@
 -- The marks of no part, of one or of two.
 use mathlib.Core.Path.{sym, ◌∙◌}
 use Rattle.cells.specs.Cells.{as_cell}
-use Rattle.casefile.proofs.WithinLaws.{one_part, two_parts, mark_none, mark_one, mark_two}
+use Rattle.casefile.proofs.WithinLaws.{one_part, two_parts, mark_one, mark_two}
 use borrow.Author.Rules.{rules}
 use Rattle.casefile.proofs.rest.mark_parts.Goals as goal
 
@@ -13,9 +13,6 @@ bounds-m-a-in-Two c = c.requires _ (two_parts (as_cell c.args.k) (sym c.parts_of
 
 pub bounds-m-b : goal.bounds-m-b
 bounds-m-b c = c.requires _ (two_parts (as_cell c.args.k) (sym c.parts_of-parts.ensures ∙ c.in-Two.is)).1
-
-pub returns-in-None : goal.returns-in-None
-returns-in-None c = mark_none (as_cell c.args.k) c.args.marks (search rules) (sym c.parts_of-parts.ensures ∙ c.in-None.is)
 
 pub returns-in-One : goal.returns-in-One
 returns-in-One c =

@@ -20,66 +20,20 @@ found rest count n f e = subst (event_says rest count n) e f
 pub loop-number-init : goal.loop-number-init
 loop-number-init c = (omega arith, omega arith, λ file cells h. events_start c.args.rest.now c.args.base c.args.t file cells h _ refl)
 
-pub overflow_add-result : goal.overflow_add-result
-overflow_add-result c = omega (arith, c.requires, c.loop-number.invariant.0)
-
 pub returns-in-Refused : goal.returns-in-Refused
 returns-in-Refused c =
     λ file cells h. events_refused c.args.rest.now c.args.base c.args.t file cells h c.requires.count_bound c.loop-number.at (run c.loop-number.words c.loop-number.n) c.loop-number.made (c.loop-number.invariant.2 file cells h) _
     (found (drop c.loop-number.at c.args.rest.now) c.args.t.count c.loop-number.n c.event_step-step.ensures c.in-Refused.is)
-
-pub ended-requires : goal.ended-requires
-ended-requires c =
-    let h = (found (drop c.loop-number.at c.args.rest.now) c.args.t.count c.loop-number.n c.event_step-step.ensures c.in-End.is).whole in
-    record { at_in_bounds = omega (arith, length-drop c.loop-number.at c.args.rest.now); rest_bound = c.requires.rest_bound }
 
 pub returns-in-End : goal.returns-in-End
 returns-in-End c =
     λ file cells h. events_end c.args.rest.now c.args.base c.args.t file cells h c.requires.count_bound c.loop-number.at (run c.loop-number.words c.loop-number.n) c.loop-number.made (c.loop-number.invariant.2 file cells h)
     (found (drop c.loop-number.at c.args.rest.now) c.args.t.count c.loop-number.n c.event_step-step.ensures c.in-End.is) c.ended.result c.ended.ensures
 
-pub shows_loose-requires : goal.shows_loose-requires
-shows_loose-requires c =
-    let h = (found (drop c.loop-number.at c.args.rest.now) c.args.t.count c.loop-number.n c.event_step-step.ensures c.in-Next.is).below in
-    record { lower = c.requires.lower; aim_fits = omega (arith, c.requires.count_bound) }
-
-pub overflow_add-result-then-shows_loose : goal.overflow_add-result-then-shows_loose
-overflow_add-result-then-shows_loose c = omega (arith, c.requires, c.loop-number.invariant.0)
-
 pub returns-then-shows_loose : goal.returns-then-shows_loose
 returns-then-shows_loose c =
     λ file cells h. events_loose c.args.rest.now c.args.base c.args.t file cells h c.requires.count_bound c.loop-number.at (run c.loop-number.words c.loop-number.n) c.loop-number.made (c.loop-number.invariant.2 file cells h)
     c.requires.lower _ (found (drop c.loop-number.at c.args.rest.now) c.args.t.count c.loop-number.n c.event_step-step.ensures c.in-Next.is) (c.shows_loose.ensures.yes c.if-shows_loose.true)
-
-pub made_after-more-requires : goal.made_after-more-requires
-made_after-more-requires c =
-    let h = (found (drop c.loop-number.at c.args.rest.now) c.args.t.count c.loop-number.n c.event_step-step.ensures c.in-Next.is).below in
-    record { lower = c.requires.lower; aim_fits = omega (arith, c.requires.count_bound) }
-
-pub offset_bounds-words-n : goal.offset_bounds-words-n
-offset_bounds-words-n c =
-    let h = (found (drop c.loop-number.at c.args.rest.now) c.args.t.count c.loop-number.n c.event_step-step.ensures c.in-Next.is).room in
-    omega arith
-
-pub bounds-words-n : goal.bounds-words-n
-bounds-words-n c =
-    let h = (found (drop c.loop-number.at c.args.rest.now) c.args.t.count c.loop-number.n c.event_step-step.ensures c.in-Next.is).room in
-    omega arith
-
-pub overflow_add-n : goal.overflow_add-n
-overflow_add-n c =
-    let h = (found (drop c.loop-number.at c.args.rest.now) c.args.t.count c.loop-number.n c.event_step-step.ensures c.in-Next.is).room in
-    omega arith
-
-pub overflow_add-at : goal.overflow_add-at
-overflow_add-at c =
-    let h = (found (drop c.loop-number.at c.args.rest.now) c.args.t.count c.loop-number.n c.event_step-step.ensures c.in-Next.is).whole in
-    omega (arith, length-drop c.loop-number.at c.args.rest.now, c.requires.rest_bound)
-
-pub loop-number-smaller : goal.loop-number-smaller
-loop-number-smaller c =
-    let h = (found (drop c.loop-number.at c.args.rest.now) c.args.t.count c.loop-number.n c.event_step-step.ensures c.in-Next.is).room in
-    omega arith
 
 pub loop-number-preserved : goal.loop-number-preserved
 loop-number-preserved c =

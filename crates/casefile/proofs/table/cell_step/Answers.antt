@@ -11,7 +11,7 @@ use Rattle.casefile.specs.declared.record.Said.{Said}
 use Rattle.casefile.specs.Record.{record_says, said_as, Stands, front_says}
 use Rattle.casefile.proofs.RecordLaws.{rest_bytes}
 use Rattle.casefile.proofs.TestLaws.{test_mark, test_unknown}
-use Rattle.casefile.proofs.CellLaws.{event_begun, end_begun, short_begun, says_short, says_cell}
+use Rattle.casefile.proofs.CellLaws.{says_short, says_cell}
 use Rattle.casefile.proofs.table.cell_step.Goals as goal
 
 -- What the reader found at `at`, and what its record says.
@@ -24,17 +24,8 @@ says rest f e i j = subst (Stands rest) (sym i ∙ ap said_as j) (found rest f e
 pub returns-in-Cell : goal.returns-in-Cell
 returns-in-Cell c = says_cell c.args.n (rest_bytes c.args.file.now c.args.at (search rules)) (says (drop c.args.at c.args.file.now) c.front_at-front.ensures c.in-Whole.is c.said_by-said.ensures refl) c.in-Cell.is c.next_cell.ensures
 
-pub returns-in-Event : goal.returns-in-Event
-returns-in-Event c = event_begun (says (drop c.args.at c.args.file.now) c.front_at-front.ensures c.in-Whole.is c.said_by-said.ensures c.in-Event.is)
-
-pub returns-in-End : goal.returns-in-End
-returns-in-End c = end_begun (says (drop c.args.at c.args.file.now) c.front_at-front.ensures c.in-Whole.is c.said_by-said.ensures c.in-End.is)
-
 pub returns-in-ShortCell : goal.returns-in-ShortCell
 returns-in-ShortCell c = says_short (found (drop c.args.at c.args.file.now) c.front_at-front.ensures c.in-ShortCell.is) c.short_fault.ensures
-
-pub returns-in-ShortEvent : goal.returns-in-ShortEvent
-returns-in-ShortEvent c = short_begun (found (drop c.args.at c.args.file.now) c.front_at-front.ensures c.in-ShortEvent.is)
 
 pub returns-in-Unknown : goal.returns-in-Unknown
 returns-in-Unknown c = λ f b. test_unknown _ f (found (drop c.args.at c.args.file.now) c.front_at-front.ensures c.in-Unknown.is)

@@ -2,12 +2,11 @@
 use mathlib.Core.Path.{◌≡◌, refl, subst, subst₂, sym}
 use Prim.Native.Nat.{ℕ, ◌+◌}
 use mathlib.Core.List.{List}
-use native.Mathlib.Omega.{arith}
 use lib.ListN.{drop, set}
 use Rattle.casefile.specs.declared.Words.{Words}
 use Rattle.casefile.specs.declared.table.CellStep.{CellStep}
 use Rattle.casefile.specs.Cells.{cell_says}
-use Rattle.casefile.proofs.CellLoop.{CellsSoFar, cells_start, cells_events, cells_refused, cells_next, step_fits}
+use Rattle.casefile.proofs.CellLoop.{CellsSoFar, cells_start, cells_events, cells_refused, cells_next}
 use Rattle.casefile.proofs.table.read_cells.Goals as goal
 
 abbrev table : List ℕ → ℕ → Words
@@ -26,36 +25,6 @@ returns-in-Events c = cells_events c.args.file.now c.loop-words.at (table c.loop
 pub returns-in-Refused : goal.returns-in-Refused
 returns-in-Refused c =
     (cells_refused c.args.file.now c.loop-words.at (table c.loop-words.words c.loop-words.n) c.loop-words.invariant _ (found (drop c.loop-words.at c.args.file.now) c.loop-words.n c.cell_step-step.ensures c.in-Refused.is), c.no_words.ensures)
-
-pub offset_bounds-words-n : goal.offset_bounds-words-n
-offset_bounds-words-n c =
-    let x = found (drop c.loop-words.at c.args.file.now) c.loop-words.n c.cell_step-step.ensures c.in-Next.is in
-    let r = x.room in
-    omega arith
-
-pub bounds-words-n : goal.bounds-words-n
-bounds-words-n c =
-    let x = found (drop c.loop-words.at c.args.file.now) c.loop-words.n c.cell_step-step.ensures c.in-Next.is in
-    let r = x.room in
-    omega arith
-
-pub overflow_add-n : goal.overflow_add-n
-overflow_add-n c =
-    let x = found (drop c.loop-words.at c.args.file.now) c.loop-words.n c.cell_step-step.ensures c.in-Next.is in
-    let r = x.room in
-    omega arith
-
-pub overflow_add-at : goal.overflow_add-at
-overflow_add-at c =
-    let x = found (drop c.loop-words.at c.args.file.now) c.loop-words.n c.cell_step-step.ensures c.in-Next.is in
-    let f = step_fits c.args.file.now c.loop-words.at (table c.loop-words.words c.loop-words.n) c.loop-words.invariant _ x in
-    omega arith
-
-pub loop-words-smaller : goal.loop-words-smaller
-loop-words-smaller c =
-    let x = found (drop c.loop-words.at c.args.file.now) c.loop-words.n c.cell_step-step.ensures c.in-Next.is in
-    let r = x.room in
-    omega arith
 
 pub loop-words-preserved : goal.loop-words-preserved
 loop-words-preserved c =
