@@ -2,7 +2,7 @@
 use mathlib.Core.Path.{refl, sym, ◌∙◌, ap}
 use native.Mathlib.Omega.{arith}
 use Rattle.std.specs.Prelude.{Ok, Err}
-use Rattle.prismfleece.specs.Numbers.{refusal_number}
+use Rattle.prismfleece.specs.Numbers.{refusal_number, told_place}
 use Rattle.prismfleece.proofs.TextLaws.{text_fits}
 use Rattle.prismfleece.proofs.prismfleece_text.Goals as goal
 
@@ -13,7 +13,7 @@ pub returns-in-Err : goal.returns-in-Err
 returns-in-Err c = (
   Err c.in-Err.refused,
   c.in-Err.ensures,
-  c.refusal.ensures ∙ (ap (refusal_number _) c.told_place.ensures ∙ ap (λ n. refusal_number n _) c.number.ensures),
+  c.refusal.ensures ∙ (ap (refusal_number c.number.result) c.told_place.ensures ∙ ap (λ n. refusal_number n (told_place c.in-Err.refused.place)) c.number.ensures),
 )
 
 pub returns-in-Ok : goal.returns-in-Ok
