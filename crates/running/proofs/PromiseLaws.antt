@@ -1,13 +1,11 @@
 -- From what is read of the bytes and what the search says to the promise; and that the promise settles the reply.
 use mathlib.Core.Path.{◌≡◌, refl, sym, ◌∙◌, ap, subst}
-use mathlib.Core.List.{List, ◌++◌, append_assoc}
+use mathlib.Core.List.{List}
 use mathlib.Core.Logic.{inl, inr}
-use Prim.Native.Nat.{ℕ, suc, ◌+◌, ◌≤◌, ◌<◌}
+use Prim.Native.Nat.{ℕ, ◌≤◌, ◌<◌}
 use native.Mathlib.Decide.{dec_lt}
-use native.Mathlib.Numerals.{add-one}
 use native.Mathlib.Omega.{arith}
-use lib.ListN.{length, get_or, take, drop, set}
-use lib.Seq.{take-suc, drop-cons, set_at, length-take-le}
+use lib.ListN.{length, take}
 use Rattle.std.specs.Prelude.{Option, Some, None}
 use Rattle.model.specs.Case.{File, WellFormed, table_of, run_of}
 use Rattle.model.specs.Format.{read_file, Reading, refused, accepted}

@@ -50,6 +50,7 @@ fn in_row(
     requires c_lt_n { from.c < n }
     ensures { InRow (table_in table.now) n rep.now want.now bare.now from.c from.d result }
 {
+    // The row of a cell that is not wanted has no pair: it need not be gone through.
     if want[from.c] != 1 {
         return None;
     }

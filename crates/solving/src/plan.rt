@@ -110,6 +110,7 @@ fn by_line(table: &Table, n: usize, rep: &[u8; 129], g: &mut Grant, t: usize) ->
     ensures { LineChance (table_in table.now) rep.now g.old t result g.new }
 {
     let l = line(table, n, rep, *g, &mut g.costs, t);
+    // The borrow checker takes an array into a literal from a variable only, not from a field.
     let want = l.cells;
     let bare = g.bare;
     Trial {
