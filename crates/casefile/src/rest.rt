@@ -25,6 +25,7 @@ fn next_event(e: Event, count: usize, n: usize) -> Result<Event, Fault>
 }
 
 // What stands at `at`, after n events over so many cells: one more, or the end.
+#[tactic(auto, using(crate::proofs::EventLaws::whole_late, crate::proofs::EventLaws::short_late))]
 fn event_step(rest: &[u8], at: usize, count: usize, n: usize) -> Result<Option<Event>, Fault>
     ensures { event_says (drop at rest.now) count n result }
 {
