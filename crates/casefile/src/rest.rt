@@ -61,6 +61,7 @@ fn mark_within(table: &Table, marks: &mut [u8; 128], c: u8)
     let mut i = usize::from(c);
     marks[i] = 1;
     i += 1;
+    // Downwards by hand: counting up with `let i = c - k` is no plainer.
     while 0 < i {
         i -= 1;
         if marks[i] == 1 {

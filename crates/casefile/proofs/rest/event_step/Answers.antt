@@ -3,7 +3,7 @@ use mathlib.Core.Path.{subst}
 use borrow.Author.Rules.{rules}
 use lib.ListN.{drop}
 use Rattle.casefile.proofs.RecordLaws.{fronted}
-use Rattle.casefile.proofs.EventLaws.{step_says, whole_late, short_late, says_short, says_end, says_event}
+use Rattle.casefile.proofs.EventLaws.{step_says, says_short, says_end, says_event}
 use Rattle.casefile.proofs.rest.event_step.Goals as goal
 
 pub returns-in_ok-next_event-in-Whole-Event : goal.returns-in_ok-next_event-in-Whole-Event
