@@ -7,7 +7,7 @@ use Prim.Native.Nat.{ℕ, zero, suc, ◌+◌}
 use lib.Dec.{ltb}
 use lib.ListN.{length}
 use Rattle.model.specs.Case.{File}
-use Rattle.model.specs.Format.{Kind, Record, kind_of, width, record_at, late, too_many, outside, loose, check, check_kind, Checked, Reading, after, behind, ended, read_from, read_file}
+use Rattle.model.specs.Format.{Kind, Record, kind_of, width, record_at, late, too_many, outside, loose, check, check_kind, Checked, Reading, after, behind, read_from, read_file}
 use Rattle.refusals.specs.Numbers.{number_of, fault_of}
 
 -- A fault has this number.

@@ -90,6 +90,7 @@ fn is_loose(table: &Table, held: &[u8; 128], made: &[u8; 128]) -> bool
 }
 
 // Does an event show a variable that is not marked as made?
+#[tactic(auto, using(crate::proofs::WithinLaws::learn_loose))]
 fn shows_loose(table: &Table, made: &[u8; 128], event: Event) -> bool
     requires lower { Lower (table_in table.now) }
     requires aim_fits { AimFits (as_event event) }
