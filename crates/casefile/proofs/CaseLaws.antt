@@ -8,15 +8,19 @@ use lib.Seq.{take_all}
 use Rattle.std.specs.Prelude.{Option as Optional, Result, Ok, Err}
 use Rattle.model.specs.Case.{Lower}
 use Rattle.model.specs.Stored.{table_in}
-use Rattle.model.specs.Format.{read_file}
+use Rattle.model.specs.Format.{Reading, read_file}
 use Rattle.casefile.specs.declared.Words.{Words}
-use Rattle.casefile.specs.declared.events.Verdict.TheVariants as verdict
 use Rattle.refusals.specs.declared.Refusal.{Refusal}
 use Rattle.refusals.specs.Numbers.{number_of}
+use Rattle.refusals.proofs.Numbers.{fault_numbered}
 use Rattle.casefile.specs.Cells.{Cut, Begun}
 use Rattle.casefile.specs.Events.{read_as, EventsRead}
-use Rattle.casefile.specs.Case.{case_of, refusal, as_found, VariableFound}
+use Rattle.casefile.specs.Case.{case_of, VariableFound}
 use Rattle.casefile.proofs.VariableLaws.{variable_found}
+
+-- A refusal of the reading is that of the reply.
+pub refused_as : (file : List ℕ) (e : Refusal) → read_file file ≡ Reading.refused (number_of e.fault) e.place → Err e ≡ case_of (read_file file)
+refused_as file e h = ap (λ f. Err (record { fault = f; place = e.place })) (sym (fault_numbered e.fault)) ∙ sym (ap case_of h)
 
 module _ (file : List ℕ) (at : ℕ) (t : Words) (cut : Cut file at t) where
   -- The part of the file that begins where the cell records end.
@@ -42,12 +46,12 @@ module _ (file : List ℕ) (at : ℕ) (t : Words) (cut : Cut file at t) where
     reply : read_as r cut.list (read_file file)
     reply = read file cut.list (record { part = part_all; count = count; shown = cut.shown; begun = subst Begun (sym part_all) cut.begun; whole = cut.rest })
 
-  pub reply_refused : (e : Refusal) → EventsRead part at t (Err e) → refusal (number_of e.fault) e.place ≡ case_of (read_file file)
-  reply_refused e read = sym (ap case_of (reply (Err e) read))
+  pub reply_refused : (e : Refusal) → EventsRead part at t (Err e) → Err e ≡ case_of (read_file file)
+  reply_refused e read = refused_as file e (reply (Err e) read)
 
   pub reply_accepted : (run : Words) → EventsRead part at t (Ok run) → (v : Optional ℕ) → VariableFound (table_in t.words) t.count v →
-      record { verdict = verdict.Accepted; table = t; run = run; variable = as_found v } ≡ case_of (read_file file)
+      Ok (record { table = t; run = run; variable = v }) ≡ case_of (read_file file)
   reply_accepted run read v found =
       let (events, same, reading) = reply (Ok run) read in
       let variable = variable_found cut.list (table_in t.words) t.count v cut.shown count found in
-      (λ i. record { verdict = verdict.Accepted; table = cut.table i; run = same i; variable = variable i }) ∙ sym (ap case_of reading)
+      (λ i. Ok (record { table = cut.table i; run = same i; variable = variable i })) ∙ sym (ap case_of reading)

@@ -37,30 +37,37 @@ numbers_parts VA = refl
 numbers_parts (ONE g a) = refl
 numbers_parts (TWO h l r) = refl
 
-module _ (n : ℕ) (c : case.Cell) {p : Parts} (e : p ≡ parts_of c) where
-  among : {p' : Parts} → p ≡ p' → any_of (leb n) (listed p') ≡ any_of (leb n) (numbers (Record.cell c))
-  among i = ap (λ p. any_of (leb n) (listed p)) (sym i ∙ e) ∙ ap (any_of (leb n)) (numbers_parts c)
+-- A test of one part, or of the second behind the first.
+either : (s t : Bool) → cond s true t ≡ cond s true (cond t true false)
+either true t = refl
+either false true = refl
+either false false = refl
 
-  last : (t : Bool) → t ≡ cond t true false
-  last true = refl
-  last false = refl
+among : (n : ℕ) (c : case.Cell) {p : Parts} → p ≡ parts_of c → any_of (leb n) (listed p) ≡ any_of (leb n) (numbers (Record.cell c))
+among n c e = ap (λ p. any_of (leb n) (listed p)) e ∙ ap (any_of (leb n)) (numbers_parts c)
 
-  pub none_outside : p ≡ parts.None → false ≡ any_of (leb n) (numbers (Record.cell c))
+pub none_outside : (n : ℕ) (c : case.Cell) → parts.None ≡ parts_of c → false ≡ any_of (leb n) (numbers (Record.cell c))
+unfolding any_of
+none_outside n c e = among n c e
+
+pub one_outside : (n : ℕ) (c : case.Cell) (a : ℕ) → parts.One a ≡ parts_of c → leb n a ≡ any_of (leb n) (numbers (Record.cell c))
+unfolding any_of
+one_outside n c a e = last (leb n a) ∙ among n c e
+  where
+    last : (t : Bool) → t ≡ cond t true false
+    last true = refl
+    last false = refl
+
+module _ (n : ℕ) (c : case.Cell) (a b : ℕ) (e : parts.Two a b ≡ parts_of c) where
+  two_outside : cond (leb n a) true (leb n b) ≡ any_of (leb n) (numbers (Record.cell c))
   unfolding any_of
-  none_outside i = among i
+  two_outside = either (leb n a) (leb n b) ∙ among n c e
 
-  pub one_outside : {a : ℕ} → p ≡ parts.One a → leb n a ≡ any_of (leb n) (numbers (Record.cell c))
-  unfolding any_of
-  one_outside {a} i = last (leb n a) ∙ among i
+  pub first_outside : n ≤ a → leb n a ≡ any_of (leb n) (numbers (Record.cell c))
+  first_outside h = le-leb n a h ∙ (yes (leb n b) (le-leb n a h) ∙ two_outside)
 
-  module _ {a b : ℕ} (i : p ≡ parts.Two a b) where
-    pub first_outside : n ≤ a → true ≡ any_of (leb n) (numbers (Record.cell c))
-    unfolding any_of
-    first_outside h = yes _ (le-leb n a h) ∙ among i
-
-    pub second_outside : a < n → leb n b ≡ any_of (leb n) (numbers (Record.cell c))
-    unfolding any_of
-    second_outside h = no true (lt-leb n a h) (last (leb n b)) ∙ among i
+  pub second_outside : a < n → leb n b ≡ any_of (leb n) (numbers (Record.cell c))
+  second_outside h = no true (lt-leb n a h) refl ∙ two_outside
 
 -- Where none is outside, each part is below n.
 part_number : {c : case.Cell} {x : ℕ} → case.Part c x → Memᴰ x (numbers (Record.cell c))

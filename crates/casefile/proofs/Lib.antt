@@ -9,5 +9,6 @@ pub mod EventLaws
 pub mod EventLoop
 pub mod VariableLaws
 pub mod CaseLaws
+pub mod FaultLaws
 pub mod CaseFile
 pub mod Theorems

@@ -1,4 +1,4 @@
--- What the tests of a record find, in the paper's order: its mark, and then its fields.
+-- What the tests of a record find, in their order: its mark, and then its fields.
 use mathlib.Core.Path.{◌≡◌, refl, sym, ◌∙◌, ap}
 use mathlib.Core.Bool.{Bool, true, false, cond}
 use mathlib.Core.List.{List}

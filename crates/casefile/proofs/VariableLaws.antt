@@ -11,19 +11,18 @@ use Rattle.model.specs.Format.{first_variable}
 use Rattle.model.proofs.Read.{clash}
 use Rattle.model.proofs.Rows.{past_cells}
 use Rattle.model.proofs.Variables.{first_variable_lem, no_variable}
-use Rattle.casefile.specs.declared.Found.TheVariants as found
-use Rattle.casefile.specs.Case.{found_at, as_found, VariableFound}
+use Rattle.casefile.specs.Case.{found_at, VariableFound}
 
 module _ (cells : List Cell) where
   -- What is found in the table of the cells is their first variable.
-  of_cells : (r : Optional ℕ) → VariableFound (table_of cells) (length cells) r → as_found r ≡ found_at (first_variable cells)
-  of_cells (Some at) (i, place, h, v, before) = ap found.At place ∙ sym (ap found_at (first_variable_lem cells i (record { variable = v; before = before })))
+  of_cells : (r : Optional ℕ) → VariableFound (table_of cells) (length cells) r → r ≡ found_at (first_variable cells)
+  of_cells (Some at) (i, place, h, v, before) = ap Some place ∙ sym (ap found_at (first_variable_lem cells i (record { variable = v; before = before })))
   of_cells None none = sym (ap found_at ((no_variable cells).1 (λ c v. elim (dec_lt c (length cells)) [
     | yes h ↦ none c h v
     | no h ↦ clash (cc (past_cells cells c (omega arith)))
   ])))
 
-  pub variable_found : (T : Table) (n : ℕ) (r : Optional ℕ) → T ≡ table_of cells → n ≡ length cells → VariableFound T n r → as_found r ≡ found_at (first_variable cells)
+  pub variable_found : (T : Table) (n : ℕ) (r : Optional ℕ) → T ≡ table_of cells → n ≡ length cells → VariableFound T n r → r ≡ found_at (first_variable cells)
   variable_found T n r e i w = of_cells r (subst (λ n. VariableFound (table_of cells) n r) i (subst (λ T. VariableFound T n r) e w))
 
 -- Two replies of `first_variable` that meet its contract are equal.

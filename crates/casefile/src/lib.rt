@@ -1,8 +1,7 @@
-// The reader of case files: from any bytes to a table and a run by value, or to a refusal with its number and place.
+// The reader of case files: from any bytes to a table and a run by value, or to a refusal.
 
 #![tactic(auto)]
 
-pub mod events;
 mod record;
 mod rest;
 mod store;
@@ -11,11 +10,9 @@ mod table;
 ghost use Rattle.std.specs.Prelude.{◌≡◌, ◌≤◌};
 ghost use Rattle.model.specs.Format.{read_file};
 ghost use Rattle.model.specs.Stored.{table_in};
-ghost use Rattle.refusals.specs.Numbers.{number_of};
-ghost use Rattle.casefile.specs.Case.{case_of, refusal, as_found, VariableFound};
+ghost use Rattle.casefile.specs.Case.{case_of, VariableFound};
 
 use cells::Table;
-use events::Verdict;
 use refusals::Refusal;
 
 // One word for each of so many cells, or events, then zeros.
@@ -25,20 +22,12 @@ pub struct Words {
     pub count: usize,
 }
 
-// The offset of the first VA record.
-#[derive(Clone, Copy)]
-pub enum Found {
-    At(usize),
-    Nowhere,
-}
-
-// What is read of a file: the reply to it and, where it is accepted, its table, its run and the offset of the first VA. A refusal comes with no cell and no event.
+// What is read of an accepted file: its table, its run and the offset of its first VA record, if it has one.
 #[derive(Clone, Copy)]
 pub struct Case {
-    pub verdict: Verdict,
     pub table: Words,
     pub run: Words,
-    pub variable: Found,
+    pub variable: Option<usize>,
 }
 
 // The offset of the first variable of a table of n cells: the records of the cells before it have four bytes each.
@@ -46,48 +35,22 @@ fn first_variable(table: &Table, n: usize) -> Option<usize>
     requires { n ≤ 128 }
     ensures { VariableFound (table_in table.now) n result }
 {
-    match (0..n).find(|i| cells::is_variable(table, *i)) {
-        Some(i) => Some(4 * i),
-        None => None,
-    }
-}
-
-// Where a variable is found.
-fn as_found(variable: Option<usize>) -> Found
-    ensures { result ≡ as_found variable }
-{
-    match variable {
-        Some(at) => Found::At(at),
-        None => Found::Nowhere,
-    }
-}
-
-// The reply to a refused file.
-fn refused(e: Refusal) -> Case
-    ensures { result ≡ refusal (number_of e.fault) e.place }
-{
-    Case {
-        verdict: Verdict::Refused(e.fault.number(), e.place),
-        table: Words::new(),
-        run: Words::new(),
-        variable: Found::Nowhere,
-    }
+    (0..n)
+        .find(|i| cells::is_variable(table, *i))
+        .map(|i| 4 * i)
 }
 
 // Reads a case file: any bytes are accepted, or refused by the first record at fault.
-pub fn read_case(file: &[u8]) -> Case
+pub fn read_case(file: &[u8]) -> Result<Case, Refusal>
     ensures { result ≡ case_of (read_file file.now) }
 {
-    match table::read_cells(file) {
-        Err(e) => refused(e),
-        Ok(read) => match rest::read_events(&file[read.at..], read.at, &read.table) {
-            Err(e) => refused(e),
-            Ok(run) => Case {
-                verdict: Verdict::Accepted,
-                table: read.table,
-                run,
-                variable: as_found(first_variable(&read.table.words, read.table.count)),
-            },
-        },
-    }
+    let read = table::read_cells(file)?;
+    let table = read.table;
+    let run = rest::read_events(&file[read.at..], read.at, &table)?;
+    let variable = first_variable(&table.words, table.count);
+    Ok(Case {
+        table,
+        run,
+        variable,
+    })
 }

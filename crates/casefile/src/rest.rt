@@ -25,6 +25,7 @@ fn next_event(e: Event, count: usize, n: usize) -> Result<Event, Fault>
 }
 
 // What stands at `at`, after n events over so many cells: one more, or the end.
+#[tactic(auto, using(crate::proofs::EventLaws::whole_late, crate::proofs::EventLaws::short_late))]
 fn event_step(rest: &[u8], at: usize, count: usize, n: usize) -> Result<Option<Event>, Fault>
     ensures { event_says (drop at rest.now) count n result }
 {
@@ -60,6 +61,7 @@ fn mark_within(table: &Table, marks: &mut [u8; 128], c: u8)
     let mut i = usize::from(c);
     marks[i] = 1;
     i += 1;
+    // Downwards by hand: counting up with `let i = c - k` is no plainer.
     while 0 < i {
         i -= 1;
         if marks[i] == 1 {
@@ -88,6 +90,7 @@ fn is_loose(table: &Table, held: &[u8; 128], made: &[u8; 128]) -> bool
 }
 
 // Does an event show a variable that is not marked as made?
+#[tactic(auto, using(crate::proofs::WithinLaws::learn_loose))]
 fn shows_loose(table: &Table, made: &[u8; 128], event: Event) -> bool
     requires lower { Lower (table_in table.now) }
     requires aim_fits { AimFits (as_event event) }

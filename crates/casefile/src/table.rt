@@ -18,6 +18,7 @@ pub struct Cells {
 }
 
 // Some part's number is not below n.
+#[tactic(auto, using(crate::proofs::CellLaws::none_outside, crate::proofs::CellLaws::one_outside, crate::proofs::CellLaws::first_outside, crate::proofs::CellLaws::second_outside))]
 fn outside(c: Cell, n: usize) -> bool
     ensures { result ≡ any_of (leb n) (numbers (format.Record.cell (as_cell c))) }
 {

@@ -3,7 +3,7 @@ use mathlib.Core.Path.{subst}
 use borrow.Author.Rules.{rules}
 use lib.ListN.{drop}
 use Rattle.casefile.proofs.RecordLaws.{fronted}
-use Rattle.casefile.proofs.EventLaws.{step_says, whole_late, short_late, says_short, says_end, says_event}
+use Rattle.casefile.proofs.EventLaws.{step_says, says_short, says_end, says_event}
 use Rattle.casefile.proofs.rest.event_step.Goals as goal
 
 pub returns-in_ok-next_event-in-Whole-Event : goal.returns-in_ok-next_event-in-Whole-Event
@@ -26,9 +26,3 @@ returns-in-Whole-End c =
 
 pub returns-in-ShortEvent : goal.returns-in-ShortEvent
 returns-in-ShortEvent c = says_short (drop c.args.at c.args.rest.now) c.args.count c.args.n (rw c.in-ShortEvent.is at c.in_ok-front_at.ensures) c.short_fault.ensures
-
-pub returns-in-Whole-Cell : goal.returns-in-Whole-Cell
-returns-in-Whole-Cell c = let f = c.in_ok-front_at.ensures in search (rules, whole_late)
-
-pub returns-in-Whole-Cell-2 : goal.returns-in-Whole-Cell-2
-returns-in-Whole-Cell-2 c = let f = c.in_ok-front_at.ensures in search (rules, short_late)
