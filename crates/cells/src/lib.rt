@@ -9,8 +9,12 @@ ghost use Rattle.theory.specs.Level.{Kin};
 ghost use Rattle.theory.specs.Decides.{Decides};
 ghost use Rattle.cells.specs.Cells.{as_cell, as_event, parts_of, MadeOf, Opens, Meets};
 
-// A table: one word for each cell, then zeros. A word has the kind above its two field bytes; the byte above the kind is free.
-pub type Table = [u32; 128];
+pub mod table;
+
+pub use table::Table;
+
+// The words of a table: one for each cell, then zeros. A word has the kind above its two field bytes; the byte above the kind is free.
+pub type Words = [u32; 128];
 
 // A run: one word for each event, then zeros. A word has the kind, a free byte and the cell; the byte above the kind is free too.
 pub type Run = [u32; 128];
@@ -83,19 +87,19 @@ fn cell_in(word: u32) -> Cell
 }
 
 // The cell c of a table, one of its 128 words.
-pub fn cell_within(table: &Table, c: usize) -> Cell
+pub fn cell_within(words: &Words, c: usize) -> Cell
     requires { c < 128 }
-    ensures { as_cell result ≡ table_in table.now c }
+    ensures { as_cell result ≡ table_in words.now c }
 {
-    cell_in(table[c])
+    cell_in(words[c])
 }
 
 // The cell c of a table; past its words his own name.
-pub fn cell_at(table: &Table, c: usize) -> Cell
-    ensures { as_cell result ≡ table_in table.now c }
+pub fn cell_at(words: &Words, c: usize) -> Cell
+    ensures { as_cell result ≡ table_in words.now c }
 {
     if c < 128 {
-        cell_within(table, c)
+        cell_within(words, c)
     } else {
         Cell::Atom(0)
     }
@@ -192,17 +196,17 @@ fn kin(c: Cell, d: Cell) -> bool
 }
 
 // Are the cells c and d of a table kin?
-pub fn kin_at(table: &Table, c: usize, d: usize) -> bool
-    ensures { Decides result (Kin (table_in table.now c) (table_in table.now d)) }
+pub fn kin_at(words: &Words, c: usize, d: usize) -> bool
+    ensures { Decides result (Kin (table_in words.now c) (table_in words.now d)) }
 {
-    kin(cell_at(table, c), cell_at(table, d))
+    kin(cell_at(words, c), cell_at(words, d))
 }
 
 // Is the cell c of a table a variable?
-pub fn is_variable(table: &Table, c: usize) -> bool
-    ensures { Decides result (table_in table.now c ≡ VA) }
+pub fn is_variable(words: &Words, c: usize) -> bool
+    ensures { Decides result (table_in words.now c ≡ VA) }
 {
-    cell_at(table, c) == Cell::Variable
+    cell_at(words, c) == Cell::Variable
 }
 
 // The event of a kind with its cell.

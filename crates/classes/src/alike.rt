@@ -7,7 +7,7 @@ ghost use Rattle.theory.specs.Cells.{class_at};
 ghost use Rattle.classes.specs.Differ.{Told, PartTold};
 
 use super::Row;
-use cells::{Meeting, Table, cell_at};
+use cells::{Meeting, Words, cell_at};
 
 // How two cells differ: not at all, in kind, name or function, or in two parts that are to be joined.
 #[derive(Clone, Copy, Debug, PartialEq, Eq)]
@@ -61,10 +61,10 @@ fn both(rep: &Row, a: u8, b: u8, x: u8, y: u8) -> Diff
 }
 
 // The cells c and d, by the classes of their parts. A variable is alike no cell.
-pub fn compare(table: &Table, rep: &Row, c: usize, d: usize) -> Diff
-    ensures { Told (class_at rep.now) (table_in table.now c) (table_in table.now d) result }
+pub fn compare(words: &Words, rep: &Row, c: usize, d: usize) -> Diff
+    ensures { Told (class_at rep.now) (table_in words.now c) (table_in words.now d) result }
 {
-    match cells::meet(cell_at(table, c), cell_at(table, d)) {
+    match cells::meet(cell_at(words, c), cell_at(words, d)) {
         Meeting::Unlike => Diff::Clash,
         Meeting::Same => Diff::Same,
         Meeting::One(a, x) => part(rep, a, x),

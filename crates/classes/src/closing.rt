@@ -1,7 +1,6 @@
 // Joins that every message of the cells asks for, until nothing is left to join.
 ghost use Rattle.std.specs.Prelude.{◌+◌};
 ghost use Rattle.model.specs.Stored.{table_in};
-ghost use Rattle.theory.specs.Cells.{TableWords};
 ghost use Rattle.classes.specs.Kept.{Kept};
 ghost use Rattle.classes.specs.Settle.{Asks, Bound, BindsAll, Settles};
 
@@ -15,29 +14,27 @@ use cells::{Table, is_variable};
 struct Clash;
 
 // The cell c with the one that stands for its class. A cell that stands for its class asks for nothing.
-fn differ(table: &Table, n: usize, rep: &Row, c: usize) -> Diff
-    requires table_words { TableWords n table.now }
-    requires kept { Kept n (table_in table.now) rep.now }
-    ensures { Asks n (table_in table.now) rep.now c result }
+fn differ(table: &Table, rep: &Row, c: usize) -> Diff
+    requires kept { Kept table.now.count (table_in table.now.words) rep.now }
+    ensures { Asks table.now.count (table_in table.now.words) rep.now c result }
 {
     let r = class_of(rep, c);
-    if r == c || is_variable(table, c) {
+    if r == c || is_variable(&table.words, c) {
         return Diff::Same;
     }
-    compare(table, rep, c, r)
+    compare(&table.words, rep, c, r)
 }
 
 // One binding step: what the cell c asks for is joined, or it clashes; says whether it joined.
-fn bind(table: &Table, n: usize, rep: &mut Row, c: usize) -> Result<bool, Clash>
-    requires table_words { TableWords n table.now }
-    requires kept { Kept n (table_in table.now) rep.old }
-    ensures { Bound n (table_in table.now) rep.old c rep.new result }
+fn bind(table: &Table, rep: &mut Row, c: usize) -> Result<bool, Clash>
+    requires kept { Kept table.now.count (table_in table.now.words) rep.old }
+    ensures { Bound table.now.count (table_in table.now.words) rep.old c rep.new result }
 {
-    match differ(table, n, &*rep, c) {
+    match differ(table, &*rep, c) {
         Diff::Same => Ok(false),
         Diff::Clash => Err(Clash),
         Diff::Parts(x, y) => {
-            *rep = join(table, n, *rep, x, y);
+            *rep = join(table, *rep, x, y);
             Ok(true)
         }
     }
@@ -45,15 +42,15 @@ fn bind(table: &Table, n: usize, rep: &mut Row, c: usize) -> Result<bool, Clash>
 
 // Binding steps at the first cell beyond the table's, which shows his own name, and downwards at each of its cells, until it asks for nothing:
 // parts lie lower, so what a join asks for is mostly found on the way. Says whether any step joined.
-fn bind_all(table: &Table, n: usize, rep: &mut Row) -> Result<bool, Clash>
-    requires table_words { TableWords n table.now }
-    requires kept { Kept n (table_in table.now) rep.old }
-    ensures { BindsAll n (table_in table.now) rep.old (n + 1) rep.new result }
+fn bind_all(table: &Table, rep: &mut Row) -> Result<bool, Clash>
+    requires kept { Kept table.now.count (table_in table.now.words) rep.old }
+    ensures { BindsAll table.now.count (table_in table.now.words) rep.old (table.now.count + 1) rep.new result }
 {
+    let n = table.count;
     let mut changed = false;
     let mut c = n + 1;
     while c > 0 {
-        if bind(table, n, rep, c - 1)? {
+        if bind(table, rep, c - 1)? {
             changed = true;
         } else {
             c -= 1;
@@ -63,14 +60,13 @@ fn bind_all(table: &Table, n: usize, rep: &mut Row) -> Result<bool, Clash>
 }
 
 // Joins until nothing is left to join.
-pub fn settle(table: &Table, n: usize, start: Row) -> Settled
-    requires table_words { TableWords n table.now }
-    requires kept { Kept n (table_in table.now) start }
-    ensures { Settles n (table_in table.now) start result }
+pub fn settle(table: &Table, start: Row) -> Settled
+    requires kept { Kept table.now.count (table_in table.now.words) start }
+    ensures { Settles table.now.count (table_in table.now.words) start result }
 {
     let mut rep = start;
     loop {
-        match bind_all(table, n, &mut rep) {
+        match bind_all(table, &mut rep) {
             Ok(true) => {}
             Ok(false) => return Settled { ok: true, rep },
             Err(Clash) => return Settled { ok: false, rep },

@@ -12,7 +12,6 @@ pub mod upward;
 
 ghost use Rattle.std.specs.Prelude.{◌<◌};
 ghost use Rattle.model.specs.Stored.{table_in};
-ghost use Rattle.theory.specs.Cells.{TableWords};
 ghost use Rattle.classes.specs.Kept.{Kept};
 ghost use Rattle.classes.specs.Settle.{Unifies};
 
@@ -34,15 +33,14 @@ pub struct Settled {
 }
 
 // The classes of a and b in one, with all that this asks for; not ok if no messages of the cells allow it.
-pub fn unify(table: &Table, n: usize, rep: Row, a: u8, b: u8) -> Settled
-    requires table_words { TableWords n table.now }
-    requires kept { Kept n (table_in table.now) rep }
-    requires a_lt_n { (a < n) × (b < n) }
-    ensures { Unifies n (table_in table.now) rep a b result }
+pub fn unify(table: &Table, rep: Row, a: u8, b: u8) -> Settled
+    requires kept { Kept table.now.count (table_in table.now.words) rep }
+    requires a_lt_n { (a < table.now.count) × (b < table.now.count) }
+    ensures { Unifies table.now.count (table_in table.now.words) rep a b result }
 {
-    let s = settle(table, n, join(table, n, rep, a, b));
+    let s = settle(table, join(table, rep, a, b));
     Settled {
-        ok: s.ok && acyclic(table, n, s.rep),
+        ok: s.ok && acyclic(table, s.rep),
         rep: s.rep,
     }
 }

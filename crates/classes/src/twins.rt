@@ -1,7 +1,7 @@
 // The first class array: cells that show equal trees are one class.
 ghost use Rattle.std.specs.Prelude.{◌≡◌, ℕ, ◌+◌, ◌<◌, ◌≤◌};
 ghost use Rattle.model.specs.Stored.{table_in};
-ghost use Rattle.theory.specs.Cells.{TableWords, class_at};
+ghost use Rattle.theory.specs.Cells.{class_at};
 ghost use Rattle.cells.specs.Cells.{as_cell};
 ghost use Rattle.classes.specs.Twins.{class_word, Worded, Earliest, First, Twin, Start};
 
@@ -40,31 +40,30 @@ fn first_same(words: &[u32; 129], c: u8) -> u8
 
 // The lowest cell that is alike c, where the entries and the class words below c are right; the class word of c is laid beside them. The cells beyond the table's all show
 // his own name: they need no word, and their class is that of the first of them.
-fn lowest(table: &Table, n: usize, rep: &Row, words: &mut [u32; 129], c: u8) -> u8
-    requires table_words { TableWords n table.now }
+fn lowest(table: &Table, rep: &Row, words: &mut [u32; 129], c: u8) -> u8
     requires c_bound { c ≤ 128 }
-    requires by_index { (i : ℕ) → i < c → First (table_in table.now) (class_at rep.now) i }
-    requires worded_2 { Worded n (table_in table.now) (class_at rep.now) c words.old }
-    ensures twin { Twin (table_in table.now) (class_at rep.now) c result }
-    ensures worded { Worded n (table_in table.now) (class_at rep.now) (c + 1) words.new }
+    requires by_index { (i : ℕ) → i < c → First (table_in table.now.words) (class_at rep.now) i }
+    requires worded_2 { Worded table.now.count (table_in table.now.words) (class_at rep.now) c words.old }
+    ensures twin { Twin (table_in table.now.words) (class_at rep.now) c result }
+    ensures worded { Worded table.now.count (table_in table.now.words) (class_at rep.now) (c + 1) words.new }
 {
+    let n = table.count;
     let i = usize::from(c);
     if n < i {
         return rep[n];
     }
-    words[i] = class_word(rep, c, cell_at(table, i));
+    words[i] = class_word(rep, c, cell_at(&table.words, i));
     first_same(&*words, c)
 }
 
 // The first class array: cells that show equal trees are one class, upwards from the lowest cell.
-pub fn start(table: &Table, n: usize) -> Row
-    requires { TableWords n table.now }
-    ensures { Start n (table_in table.now) result }
+pub fn start(table: &Table) -> Row
+    ensures { Start table.now.count (table_in table.now.words) result }
 {
     let mut rep = [0u8; 129];
     let mut words = [0u32; 129];
     for c in 0..129 {
-        rep[c] = lowest(table, n, &rep, &mut words, c as u8);
+        rep[c] = lowest(table, &rep, &mut words, c as u8);
     }
     rep
 }

@@ -1,7 +1,7 @@
 // What he can build from all that is learnt, for a table without variables: the classes of equal messages, and which of them are built.
 ghost use Rattle.std.specs.Prelude.{◌≤◌};
 ghost use Rattle.model.specs.Stored.{table_in, run_in};
-ghost use Rattle.theory.specs.Cells.{TableWords, RunWords};
+ghost use Rattle.theory.specs.Cells.{RunWords};
 ghost use Rattle.knowledge.specs.Knowledge.{ClassRow};
 ghost use Rattle.knowledge.specs.Heard.{LearntAll, HeardOpened};
 
@@ -37,13 +37,13 @@ pub fn learnt_before(n: usize, rep: &[u8; 129], run: &Run, count: usize, p: usiz
 }
 
 // The classes of equal messages, and what he can build from all that is learnt.
-pub fn open_heard(table: &Table, n: usize, run: &Run, count: usize) -> Knowledge
-    requires table_words { TableWords n table.now }
-    requires run_words { RunWords n run.now count }
-    ensures { HeardOpened n (table_in table.now) (run_in count run.now) result }
+pub fn open_heard(table: &Table, run: &Run, count: usize) -> Knowledge
+    requires run_words { RunWords table.now.count run.now count }
+    ensures { HeardOpened table.now.count (table_in table.now.words) (run_in count run.now) result }
 {
-    let rep = classes::start(table, n);
+    let n = table.count;
+    let rep = classes::start(table);
     let learnt = learnt_before(n, &rep, run, count, count);
-    let built = super::open_known(table, n, &rep, learnt).built;
+    let built = super::open_known(table, &rep, learnt).built;
     Knowledge { rep, built }
 }

@@ -7,7 +7,7 @@ pub mod heard;
 ghost use Rattle.std.specs.Prelude.{◌≡◌, ℕ, ◌≤◌, ◌<◌};
 ghost use Rattle.model.specs.Case.{Part};
 ghost use Rattle.model.specs.Stored.{table_in};
-ghost use Rattle.theory.specs.Cells.{TableWords, class_at, On};
+ghost use Rattle.theory.specs.Cells.{class_at, On};
 ghost use Rattle.theory.specs.Decides.{Decides};
 ghost use Rattle.cells.specs.Cells.{as_cell};
 ghost use Rattle.knowledge.specs.Knowledge.{ClassRow, MarkRow, Learns, Opened};
@@ -116,44 +116,36 @@ fn gives(n: usize, k: Cell, rep: &[u8; 129], built: &[u8; 129]) -> bool
 }
 
 // Is c to be marked as built?
-fn newly(
-    table: &Table,
-    n: usize,
-    rep: &[u8; 129],
-    seen: &[u8; 129],
-    built: &[u8; 129],
-    c: usize,
-) -> bool
-    requires table_words { TableWords n table.now }
-    requires class_row { ClassRow n rep.now }
-    requires c_lt_n { c < n }
-    ensures { Decides result (Newly (table_in table.now) rep.now seen.now built.now c) }
+fn newly(table: &Table, rep: &[u8; 129], seen: &[u8; 129], built: &[u8; 129], c: usize) -> bool
+    requires class_row { ClassRow table.now.count rep.now }
+    requires c_lt_n { c < table.now.count }
+    ensures { Decides result (Newly (table_in table.now.words) rep.now seen.now built.now c) }
 {
+    let n = table.count;
     if class_within(rep, c) != c || built[c] == 1 {
         return false;
     }
-    let k = cell_within(table, c);
+    let k = cell_within(&table.words, c);
     seen[c] == 1 || is_given(k) || is_made(n, k, rep, built)
 }
 
 // The classes of the parts of c, where they are newly seen.
 fn shows(
     table: &Table,
-    n: usize,
     rep: &[u8; 129],
     seen: &[u8; 129],
     built: &[u8; 129],
     c: usize,
 ) -> Option<Ends>
-    requires table_words { TableWords n table.now }
-    requires class_row { ClassRow n rep.now }
-    requires c_lt_n { c < n }
-    ensures { Finds (table_in table.now) rep.now seen.now built.now c result }
+    requires class_row { ClassRow table.now.count rep.now }
+    requires c_lt_n { c < table.now.count }
+    ensures { Finds (table_in table.now.words) rep.now seen.now built.now c result }
 {
+    let n = table.count;
     if class_within(rep, c) != c || seen[c] != 1 {
         return None;
     }
-    let k = cell_within(table, c);
+    let k = cell_within(&table.words, c);
     if !gives(n, k, rep, built) {
         return None;
     }
@@ -165,15 +157,15 @@ fn shows(
 }
 
 // Marks upwards what is built, and says whether that added any mark.
-fn rise(table: &Table, n: usize, rep: &[u8; 129], seen: &[u8; 129], built: &mut [u8; 129]) -> bool
-    requires table_words { TableWords n table.now }
-    requires class_row { ClassRow n rep.now }
+fn rise(table: &Table, rep: &[u8; 129], seen: &[u8; 129], built: &mut [u8; 129]) -> bool
+    requires class_row { ClassRow table.now.count rep.now }
     requires mark_row { MarkRow rep.now built.old }
-    ensures { Rising (table_in table.now) rep.now seen.now built.old built.new result n }
+    ensures { Rising (table_in table.now.words) rep.now seen.now built.old built.new result table.now.count }
 {
+    let n = table.count;
     let mut changed = false;
     for c in 0..n {
-        if newly(table, n, rep, seen, built, c) {
+        if newly(table, rep, seen, built, c) {
             built[c] = 1;
             changed = true;
         }
@@ -182,15 +174,15 @@ fn rise(table: &Table, n: usize, rep: &[u8; 129], seen: &[u8; 129], built: &mut 
 }
 
 // Marks downwards what is seen, and says whether that added any mark.
-fn fall(table: &Table, n: usize, rep: &[u8; 129], seen: &mut [u8; 129], built: &[u8; 129]) -> bool
-    requires table_words { TableWords n table.now }
-    requires class_row { ClassRow n rep.now }
+fn fall(table: &Table, rep: &[u8; 129], seen: &mut [u8; 129], built: &[u8; 129]) -> bool
+    requires class_row { ClassRow table.now.count rep.now }
     requires mark_row { MarkRow rep.now seen.old }
-    ensures { Falling (table_in table.now) rep.now built.now seen.old seen.new result n 0 }
+    ensures { Falling (table_in table.now.words) rep.now built.now seen.old seen.new result table.now.count 0 }
 {
+    let n = table.count;
     let mut changed = false;
     for c in (0..n).rev() {
-        if let Some(ends) = shows(table, n, rep, seen, built, c) {
+        if let Some(ends) = shows(table, rep, seen, built, c) {
             seen[ends.left] = 1;
             seen[ends.right] = 1;
             changed = true;
@@ -200,21 +192,14 @@ fn fall(table: &Table, n: usize, rep: &[u8; 129], seen: &mut [u8; 129], built: &
 }
 
 // One sweep upwards and one downwards.
-pub fn sweep(
-    table: &Table,
-    n: usize,
-    rep: &[u8; 129],
-    mut seen: [u8; 129],
-    mut built: [u8; 129],
-) -> Turn
-    requires table_words { TableWords n table.now }
-    requires class_row { ClassRow n rep.now }
+pub fn sweep(table: &Table, rep: &[u8; 129], mut seen: [u8; 129], mut built: [u8; 129]) -> Turn
+    requires class_row { ClassRow table.now.count rep.now }
     requires mark_row { MarkRow rep.now seen }
     requires mark_row_2 { MarkRow rep.now built }
-    ensures { Turned (table_in table.now) n rep.now seen built result.seen result.built result.changed }
+    ensures { Turned (table_in table.now.words) table.now.count rep.now seen built result.seen result.built result.changed }
 {
-    let up = rise(table, n, rep, &seen, &mut built);
-    let down = fall(table, n, rep, &mut seen, &built);
+    let up = rise(table, rep, &seen, &mut built);
+    let down = fall(table, rep, &mut seen, &built);
     Turn {
         seen,
         built,
@@ -247,15 +232,15 @@ pub fn learn(n: usize, rep: &[u8; 129], mut seen: [u8; 129], c: usize) -> [u8; 1
 }
 
 // What he sees and can build, from marks of seen cells.
-pub fn open_known(table: &Table, n: usize, rep: &[u8; 129], mut seen: [u8; 129]) -> Marks
-    requires table_words { TableWords n table.now }
-    requires class_row { ClassRow n rep.now }
+pub fn open_known(table: &Table, rep: &[u8; 129], mut seen: [u8; 129]) -> Marks
+    requires class_row { ClassRow table.now.count rep.now }
     requires mark_row { MarkRow rep.now seen }
-    ensures { Opened (table_in table.now) rep.now seen result }
+    ensures { Opened (table_in table.now.words) rep.now seen result }
 {
+    let n = table.count;
     let mut built = own_marks(n, rep);
     loop {
-        let turn = sweep(table, n, rep, seen, built);
+        let turn = sweep(table, rep, seen, built);
         seen = turn.seen;
         built = turn.built;
         if !turn.changed {

@@ -1,14 +1,14 @@
 // The marks that the sets of a step start from, and the bare cells.
 ghost use Rattle.std.specs.Prelude.{Some, ◌≡◌, ℕ, ◌≤◌, ◌<◌, replicate};
 ghost use Rattle.model.specs.Stored.{table_in, aim};
-ghost use Rattle.theory.specs.Cells.{TableWords, RunWords};
+ghost use Rattle.theory.specs.Cells.{RunWords};
 ghost use Rattle.theory.specs.Decides.{Decides};
 ghost use Rattle.cells.specs.Cells.{as_event};
 ghost use Rattle.knowledge.specs.Knowledge.{ClassRow, MarkRow};
 ghost use Rattle.wants.specs.Starts.{Picks, EndsAt, BareAt, BareTo, KeyTold, Keyed, FreeAt, FreeSeen, DueTold, Due};
 
 use cells::{
-    Event, Opening, Run, Table, cell_at, cell_within, event_at, is_variable, kin_at, opens,
+    Event, Opening, Run, Table, Words, cell_at, cell_within, event_at, is_variable, kin_at, opens,
 };
 use classes::class_of;
 use knowledge::{Ends, cell, part_classes};
@@ -29,71 +29,54 @@ pub fn picked<F: Fn(usize) -> Option<usize>>(n: usize, start: [u8; 129], pick: F
 }
 
 // The classes of the parts of c.
-pub fn ends(table: &Table, n: usize, rep: &[u8; 129], c: usize) -> Ends
-    requires table_words { TableWords n table.now }
-    requires class_row { ClassRow n rep.now }
-    requires c_lt_n { c < n }
-    ensures { EndsAt (table_in table.now) rep.now c result.left result.right }
+pub fn ends(table: &Table, rep: &[u8; 129], c: usize) -> Ends
+    requires class_row { ClassRow table.now.count rep.now }
+    requires c_lt_n { c < table.now.count }
+    ensures { EndsAt (table_in table.now.words) rep.now c result.left result.right }
 {
-    part_classes(cell_within(table, c), rep, c)
+    part_classes(cell_within(&table.words, c), rep, c)
 }
 
 // Is c bare?
-fn is_bare(
-    table: &Table,
-    n: usize,
-    rep: &[u8; 129],
-    seen: &[u8; 129],
-    built: &[u8; 129],
-    c: usize,
-) -> bool
-    requires table_words { TableWords n table.now }
-    requires class_row { ClassRow n rep.now }
-    requires c_lt_n { c < n }
-    ensures { Decides result (BareAt (table_in table.now) rep.now seen.now built.now c) }
+fn is_bare(table: &Table, rep: &[u8; 129], seen: &[u8; 129], built: &[u8; 129], c: usize) -> bool
+    requires class_row { ClassRow table.now.count rep.now }
+    requires c_lt_n { c < table.now.count }
+    ensures { Decides result (BareAt (table_in table.now.words) rep.now seen.now built.now c) }
 {
-    if seen[c] != 1 || !kin_at(table, c, c) {
+    if seen[c] != 1 || !kin_at(&table.words, c, c) {
         return false;
     }
-    let e = ends(table, n, rep, c);
+    let e = ends(table, rep, c);
     built[e.left] != 1 || built[e.right] != 1
 }
 
 // The bare cells.
-pub fn bares(
-    table: &Table,
-    n: usize,
-    rep: &[u8; 129],
-    seen: &[u8; 129],
-    built: &[u8; 129],
-) -> [u8; 129]
-    requires table_words { TableWords n table.now }
-    requires class_row { ClassRow n rep.now }
-    ensures { BareTo (table_in table.now) rep.now seen.now built.now result n }
+pub fn bares(table: &Table, rep: &[u8; 129], seen: &[u8; 129], built: &[u8; 129]) -> [u8; 129]
+    requires class_row { ClassRow table.now.count rep.now }
+    ensures { BareTo (table_in table.now.words) rep.now seen.now built.now result table.now.count }
 {
+    let n = table.count;
     picked(n, [0; 129], |c| {
-        is_bare(table, n, rep, seen, built, c).then_some(c)
+        is_bare(table, rep, seen, built, c).then_some(c)
     })
 }
 
 // The class of the key of c, if c is a seal that is seen and its key is not built.
 fn key_at(
     table: &Table,
-    n: usize,
     rep: &[u8; 129],
     seen: &[u8; 129],
     built: &[u8; 129],
     c: usize,
 ) -> Option<usize>
-    requires table_words { TableWords n table.now }
-    requires class_row { ClassRow n rep.now }
-    requires c_lt_n { c < n }
-    ensures { KeyTold (table_in table.now) rep.now seen.now built.now c result }
+    requires class_row { ClassRow table.now.count rep.now }
+    requires c_lt_n { c < table.now.count }
+    ensures { KeyTold (table_in table.now.words) rep.now seen.now built.now c result }
 {
     if seen[c] != 1 {
         return None;
     }
-    match opens(cell_at(table, c)) {
+    match opens(cell_at(&table.words, c)) {
         Opening::Shut | Opening::Open(_, _) => None,
         Opening::Locked(_, x) => {
             let k = class_of(rep, cell(x));
@@ -105,35 +88,35 @@ fn key_at(
 // Marks the classes of the keys that are not built, of the seals that are seen.
 pub fn keys(
     table: &Table,
-    n: usize,
     rep: &[u8; 129],
     seen: &[u8; 129],
     built: &[u8; 129],
     start: [u8; 129],
 ) -> [u8; 129]
-    requires table_words { TableWords n table.now }
-    requires class_row { ClassRow n rep.now }
+    requires class_row { ClassRow table.now.count rep.now }
     requires mark_row { MarkRow rep.now start }
-    ensures { Keyed (table_in table.now) rep.now seen.now built.now start result n }
+    ensures { Keyed (table_in table.now.words) rep.now seen.now built.now start result table.now.count }
 {
-    picked(n, start, |c| key_at(table, n, rep, seen, built, c))
+    let n = table.count;
+    picked(n, start, |c| key_at(table, rep, seen, built, c))
 }
 
 // Is c a free cell that is seen?
-pub fn free_at(table: &Table, seen: &[u8; 129], c: usize) -> bool
+pub fn free_at(words: &Words, seen: &[u8; 129], c: usize) -> bool
     requires { c < 128 }
-    ensures { Decides result (FreeAt (table_in table.now) seen.now c) }
+    ensures { Decides result (FreeAt (table_in words.now) seen.now c) }
 {
-    seen[c] == 1 && is_variable(table, c)
+    seen[c] == 1 && is_variable(words, c)
 }
 
 // The free cells that are seen.
-pub fn free_seen(table: &Table, n: usize, rep: &[u8; 129], seen: &[u8; 129]) -> [u8; 129]
-    requires n_bound { n ≤ 128 }
+pub fn free_seen(table: &Table, rep: &[u8; 129], seen: &[u8; 129]) -> [u8; 129]
+    requires n_bound { table.now.count ≤ 128 }
     requires mark_row { MarkRow rep.now seen.now }
-    ensures { FreeSeen (table_in table.now) rep.now seen.now result n }
+    ensures { FreeSeen (table_in table.now.words) rep.now seen.now result table.now.count }
 {
-    picked(n, [0; 129], |c| free_at(table, seen, c).then_some(c))
+    let n = table.count;
+    picked(n, [0; 129], |c| free_at(&table.words, seen, c).then_some(c))
 }
 
 // The class of the cell of an event, if it is to be made and marked in `hold`.

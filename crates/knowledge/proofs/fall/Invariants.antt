@@ -4,4 +4,4 @@ use Rattle.knowledge.specs.Sweeps.{Falling}
 use Rattle.knowledge.proofs.fall.Given as goal
 
 abbrev pub invariant-loop-c : goal.invariant-loop-c
-invariant-loop-c l = Falling (table_in l.table) l.rep l.built l.initial.seen l.seen l.changed l.n l.c
+invariant-loop-c l = Falling (table_in l.table.words) l.rep l.built l.initial.seen l.seen l.changed l.table.count l.c

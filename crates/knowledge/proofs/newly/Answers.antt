@@ -10,6 +10,6 @@ pub returns-else-is_given : goal.returns-else-is_given
 returns-else-is_given c =
     elim c.if-seen-c-eq1.branch [
       | then-seen-c-eq1 w ↦ search rules
-      | else-seen-c-eq1 w ↦ newly_made (table_in c.args.table.now) c.args.rep.now c.args.seen.now c.args.built.now c.args.c c.cell_within-k.ensures (sym c.class_within.ensures ∙ c.if-class_within-c.false) c.if-built-c-eq1.false
+      | else-seen-c-eq1 w ↦ newly_made (table_in c.args.table.now.words) c.args.rep.now c.args.seen.now c.args.built.now c.args.c c.cell_within-k.ensures (sym c.class_within.ensures ∙ c.if-class_within-c.false) c.if-built-c-eq1.false
           w.if-seen-c-eq1.false (w.is_given.ensures.no (sym w.value-is ∙ c.if-is_given.false)) c.is_made.ensures
     ]

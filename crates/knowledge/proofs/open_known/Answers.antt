@@ -9,5 +9,5 @@ use Rattle.knowledge.proofs.open_known.Goals as goal
 
 pub returns-then-not-turn : goal.returns-then-not-turn
 returns-then-not-turn c =
-    opened (table_in c.args.table.now) c.requires.class_row c.requires.table_words.beyond c.own_marks-built.ensures c.loop-seen.invariant
-    (subst (λ (ch : Bool). Turned (table_in c.args.table.now) c.args.n c.args.rep.now c.loop-seen.seen c.loop-seen.built c.sweep-turn.result.seen c.sweep-turn.result.built ch) (not-true _ c.if-not-turn.true) c.sweep-turn.ensures)
+    opened (table_in c.args.table.now.words) c.requires.class_row c.args.table.now.formed.beyond c.own_marks-built.ensures c.loop-seen.invariant
+    (subst (λ (ch : Bool). Turned (table_in c.args.table.now.words) c.args.table.now.count c.args.rep.now c.loop-seen.seen c.loop-seen.built c.sweep-turn.result.seen c.sweep-turn.result.built ch) (not-true _ c.if-not-turn.true) c.sweep-turn.ensures)

@@ -6,7 +6,7 @@ use Rattle.knowledge.proofs.Closing.{Between}
 use Rattle.knowledge.proofs.open_known.Given as goal
 
 abbrev pub invariant-loop-seen : goal.invariant-loop-seen
-invariant-loop-seen l = Between (table_in l.table) l.rep l.initial.seen l.initial.built l.seen l.built
+invariant-loop-seen l = Between (table_in l.table.words) l.rep l.initial.seen l.initial.built l.seen l.built
 
 abbrev pub decreases-loop-seen : goal.decreases-loop-seen
 decreases-loop-seen l = missing l.seen + missing l.built

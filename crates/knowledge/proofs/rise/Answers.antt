@@ -9,7 +9,7 @@ pub loop-c-preserved : goal.loop-c-preserved
 loop-c-preserved c =
     elim c.if-newly.branch [
       | then-newly w ↦ rw (w.built-is, w.changed-is)
-          (rising_mark (table_in c.args.table.now) c.requires.class_row c.args.seen.now c.args.built.now c.loop-c.c c.loop-c.invariant (omega arith) (c.newly.ensures.yes w.if-newly.true))
+          (rising_mark (table_in c.args.table.now.words) c.requires.class_row c.args.seen.now c.args.built.now c.loop-c.c c.loop-c.invariant (omega arith) (c.newly.ensures.yes w.if-newly.true))
       | else-newly w ↦ rw (w.built-is, w.changed-is)
-          (rising_skip (table_in c.args.table.now) c.requires.class_row c.args.seen.now c.args.built.now c.loop-c.c c.loop-c.invariant (c.newly.ensures.no w.if-newly.false))
+          (rising_skip (table_in c.args.table.now.words) c.requires.class_row c.args.seen.now c.args.built.now c.loop-c.c c.loop-c.invariant (c.newly.ensures.no w.if-newly.false))
     ]

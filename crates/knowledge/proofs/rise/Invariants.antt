@@ -4,4 +4,4 @@ use Rattle.knowledge.specs.Sweeps.{Rising}
 use Rattle.knowledge.proofs.rise.Given as goal
 
 abbrev pub invariant-loop-c : goal.invariant-loop-c
-invariant-loop-c l = Rising (table_in l.table) l.rep l.seen l.initial.built l.built l.changed l.c
+invariant-loop-c l = Rising (table_in l.table.words) l.rep l.seen l.initial.built l.built l.changed l.c

@@ -20,25 +20,25 @@ returns-after-matches-2 t c x =
       | in-Variable-matches w ↦ absurd (true≢false (sym w.matches-is ∙ not-true _ x))
       | in_default-matches w ↦ solid_cell _ w.in_default-matches.not-Variable
     ] in
-    never_unlike (table_in c.args.table.now) c.args.rep.now (rw c.from.ensures at c.class_of-a.ensures) (rw c.from-2.ensures at c.class_of-b.ensures)
+    never_unlike (table_in c.args.table.now.words) c.args.rep.now (rw c.from.ensures at c.class_of-a.ensures) (rw c.from-2.ensures at c.class_of-b.ensures)
     c.cell_at-k.ensures c.cell_at-l.ensures sk sl (meets_as refl refl c.in-Unlike.is c.meet.ensures)
 
 pub returns-in-Same : goal.returns-in-Same
 returns-in-Same t c _ =
-    never_same (table_in c.args.table.now) c.args.rep.now (rw c.from.ensures at c.class_of-a.ensures) (rw c.from-2.ensures at c.class_of-b.ensures)
+    never_same (table_in c.args.table.now.words) c.args.rep.now (rw c.from.ensures at c.class_of-a.ensures) (rw c.from-2.ensures at c.class_of-b.ensures)
     c.cell_at-k.ensures c.cell_at-l.ensures c.requires.kept c.if-a-b.false (meets_as refl refl c.in-Same.is c.meet.ensures)
 
 pub returns-then-levels-gt0 : goal.returns-then-levels-gt0
 returns-then-levels-gt0 t c x =
-    never_facing (table_in c.args.table.now) c.args.rep.now (rw c.from.ensures at c.class_of-a.ensures) (rw c.from-2.ensures at c.class_of-b.ensures)
+    never_facing (table_in c.args.table.now.words) c.args.rep.now (rw c.from.ensures at c.class_of-a.ensures) (rw c.from-2.ensures at c.class_of-b.ensures)
     c.cell_at-k.ensures c.cell_at-l.ensures (meets_arg (meets_as refl refl c.in-One.is c.meet.ensures)) (c.clash.ensures x)
 
 pub returns-then-clash : goal.returns-then-clash
 returns-then-clash t c _ =
-    never_facing (table_in c.args.table.now) c.args.rep.now (rw c.from.ensures at c.class_of-a.ensures) (rw c.from-2.ensures at c.class_of-b.ensures)
+    never_facing (table_in c.args.table.now.words) c.args.rep.now (rw c.from.ensures at c.class_of-a.ensures) (rw c.from-2.ensures at c.class_of-b.ensures)
     c.cell_at-k.ensures c.cell_at-l.ensures (meets_right (meets_as refl refl c.in-Two.is c.meet.ensures)) (c.clash-then-levels-gt0-2.ensures c.if-clash.true)
 
 pub returns-else-clash : goal.returns-else-clash
 returns-else-clash t c x =
-    never_facing (table_in c.args.table.now) c.args.rep.now (rw c.from.ensures at c.class_of-a.ensures) (rw c.from-2.ensures at c.class_of-b.ensures)
+    never_facing (table_in c.args.table.now.words) c.args.rep.now (rw c.from.ensures at c.class_of-a.ensures) (rw c.from-2.ensures at c.class_of-b.ensures)
     c.cell_at-k.ensures c.cell_at-l.ensures (meets_left (meets_as refl refl c.in-Two.is c.meet.ensures)) (c.clash-else-clash.ensures x)

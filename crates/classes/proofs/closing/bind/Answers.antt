@@ -8,5 +8,5 @@ use Rattle.classes.proofs.closing.bind.Goals as goal
 
 pub returns-in-Parts : goal.returns-in-Parts
 returns-in-Parts c =
-    let asks : Asks c.args.n (table_in c.args.table.now) c.args.rep.now c.args.c (Parts c.in-Parts.x c.in-Parts.y) = rw c.in-Parts.is at c.differ.ensures in
+    let asks : Asks c.args.table.now.count (table_in c.args.table.now.words) c.args.rep.now c.args.c (Parts c.in-Parts.x c.in-Parts.y) = rw c.in-Parts.is at c.differ.ensures in
     (moved_join c.join.ensures c.join.ensures.kept asks.2 asks.3, λ e. absurd (true≢false e))

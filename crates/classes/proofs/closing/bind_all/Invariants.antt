@@ -6,7 +6,7 @@ use Rattle.classes.proofs.SettleLaws.{Sweeping}
 use Rattle.classes.proofs.closing.bind_all.Given as goal
 
 abbrev pub invariant-loop-c : goal.invariant-loop-c
-invariant-loop-c l = Sweeping l.n (table_in l.table) l.initial.rep l.rep l.changed l.c × (l.c ≤ l.n + 1)
+invariant-loop-c l = Sweeping l.table.count (table_in l.table.words) l.initial.rep l.rep l.changed l.c × (l.c ≤ l.table.count + 1)
 
 abbrev pub decreases-loop-c : goal.decreases-loop-c
 decreases-loop-c l = class_count l.rep + l.c

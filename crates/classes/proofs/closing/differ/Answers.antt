@@ -10,7 +10,7 @@ use Rattle.classes.proofs.closing.differ.Goals.{then-r-c-via-then-r-c, then-r-c-
 
 pub returns-then-r-c : goal.returns-then-r-c
 returns-then-r-c c =
-    let T = table_in c.args.table.now in
+    let T = table_in c.args.table.now.words in
     let cls = class_at c.args.rep.now in
     λ s. elim c.then-r-c.branch [
       | then-r-c-via-then-r-c w ↦ subst (λ d. Alike cls (T c.args.c) (T d)) (sym w.if-r-c.true ∙ c.class_of-r.ensures) (alike_self (T c.args.c) s)
@@ -19,5 +19,5 @@ returns-then-r-c c =
 
 pub returns : goal.returns
 returns c =
-    told_asks c.requires.table_words c.requires.kept c.args.c (c.is_variable.ensures.no c.if-is_variable.false) c.compare.result
+    told_asks c.args.table.now.formed c.requires.kept c.args.c (c.is_variable.ensures.no c.if-is_variable.false) c.compare.result
     (rw c.class_of-r.ensures at c.compare.ensures)

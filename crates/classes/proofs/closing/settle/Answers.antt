@@ -14,7 +14,7 @@ loop-rep-preserved c = stage_more c.loop-rep.invariant c.in-Ok-true.ensures.0
 
 pub returns-in-Ok-false : goal.returns-in-Ok-false
 returns-in-Ok-false c =
-    let T = table_in c.args.table.now in
+    let T = table_in c.args.table.now.words in
     let (moved, shut) = c.in-Ok-false.ensures in
     let quiet = c.in-Ok-false.field-0-test in
     let stage = stage_more c.loop-rep.invariant moved in
@@ -22,7 +22,7 @@ returns-in-Ok-false c =
       no = λ e. absurd (true≢false e);
       kept = λ _. stage.holds;
       closed = λ _. subst (λ (k : List ℕ). Closed T (class_at k)) (sym (moved.still quiet))
-          (shut_closed c.requires.table_words c.loop-rep.invariant.holds (shut quiet));
+          (shut_closed c.args.table.now.formed c.loop-rep.invariant.holds (shut quiet));
       sat = λ _. stage.sat;
       most = λ _. stage.most;
     }

@@ -5,7 +5,7 @@ use Rattle.classes.proofs.SettleLaws.{Stage}
 use Rattle.classes.proofs.closing.settle.Given as goal
 
 abbrev pub invariant-loop-rep : goal.invariant-loop-rep
-invariant-loop-rep l = Stage (table_in l.table) (Kept l.n (table_in l.table)) l.initial.rep l.rep
+invariant-loop-rep l = Stage (table_in l.table.words) (Kept l.table.count (table_in l.table.words)) l.initial.rep l.rep
 
 abbrev pub decreases-loop-rep : goal.decreases-loop-rep
 decreases-loop-rep l = class_count l.rep

@@ -9,9 +9,9 @@ pub returns : goal.returns
 returns c =
     let quiet = c.loop-rep-test.false in
     record {
-      yes = λ e. peeled_finite c.requires.table_words c.requires.kept _ c.peel.ensures.peeled (c.all_done.ensures.yes e);
+      yes = λ e. peeled_finite c.args.table.now.formed c.requires.kept _ c.peel.ensures.peeled (c.all_done.ensures.yes e);
       no = λ e. (let (x, h, ne) = c.all_done.ensures.no e in (
-        peeled_round c.requires.table_words c.requires.kept _ (c.peel.ensures.shut quiet) x h ne,
-        peeled_endless c.requires.table_words c.requires.kept _ (c.peel.ensures.shut quiet) x h ne,
+        peeled_round c.args.table.now.formed c.requires.kept _ (c.peel.ensures.shut quiet) x h ne,
+        peeled_endless c.args.table.now.formed c.requires.kept _ (c.peel.ensures.shut quiet) x h ne,
       ));
     }

@@ -4,7 +4,7 @@ use Rattle.classes.specs.Peel.{class_table, Peeled, undone}
 use Rattle.classes.proofs.peel.acyclic.Given as goal
 
 abbrev pub invariant-loop-rep : goal.invariant-loop-rep
-invariant-loop-rep l = Peeled (class_table (table_in l.table) l.rep) l.done
+invariant-loop-rep l = Peeled (class_table (table_in l.table.words) l.rep) l.done
 
 abbrev pub decreases-loop-rep : goal.decreases-loop-rep
 decreases-loop-rep l = undone l.done

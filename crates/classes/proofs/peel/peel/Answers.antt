@@ -10,8 +10,8 @@ use Rattle.classes.proofs.peel.peel.Goals.{then-fresh, else-fresh}
 
 pub loop-c-preserved : goal.loop-c-preserved
 loop-c-preserved c =
-    let S = class_table (table_in c.args.table.now) c.args.rep.now in
-    let small : c.loop-c.c < 129 = omega (arith, c.requires.table_words.few) in
+    let S = class_table (table_in c.args.table.now.words) c.args.rep.now in
+    let small : c.loop-c.c < 129 = omega (arith, c.args.table.now.formed.few) in
     elim c.if-fresh.branch [
       | then-fresh w ↦ rw (w.done-is, w.changed-is) (peels_mark S c.args.done.now c.loop-c.c c.loop-c.done c.loop-c.changed c.loop-c.invariant small (subst (Fresh S c.loop-c.done c.loop-c.c) w.if-fresh.true c.fresh.ensures))
       | else-fresh w ↦ rw (w.done-is, w.changed-is) (peels_skip S c.args.done.now c.loop-c.c c.loop-c.done c.loop-c.changed c.loop-c.invariant small (subst (Fresh S c.loop-c.done c.loop-c.c) w.if-fresh.false c.fresh.ensures))

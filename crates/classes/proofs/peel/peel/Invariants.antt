@@ -4,4 +4,4 @@ use Rattle.classes.specs.Peel.{class_table, Peels}
 use Rattle.classes.proofs.peel.peel.Given as goal
 
 abbrev pub invariant-loop-c : goal.invariant-loop-c
-invariant-loop-c l = Peels (class_table (table_in l.table) l.rep) l.initial.done l.c l.done l.changed
+invariant-loop-c l = Peels (class_table (table_in l.table.words) l.rep) l.initial.done l.c l.done l.changed

@@ -11,15 +11,15 @@ use Rattle.classes.proofs.twins.start.Goals as goal
 
 pub loop-c-preserved : goal.loop-c-preserved
 loop-c-preserved c =
-    let T = table_in c.args.table.now in (
+    let T = table_in c.args.table.now.words in (
       length-set c.loop-c.rep c.loop-c.c c.lowest.result ∙ c.loop-c.invariant.0,
-      firsts_more T c.requires.lower c.loop-c.rep c.loop-c.c c.lowest.result c.loop-c.invariant.0 (omega arith) c.loop-c.invariant.1 c.lowest.ensures.twin,
-      worded_same c.args.n T (class_at c.loop-c.rep) (class_at (set c.loop-c.rep c.loop-c.c c.lowest.result)) c.loop-c.c c.requires.lower
+      firsts_more T c.args.table.now.formed.lower c.loop-c.rep c.loop-c.c c.lowest.result c.loop-c.invariant.0 (omega arith) c.loop-c.invariant.1 c.lowest.ensures.twin,
+      worded_same c.args.table.now.count T (class_at c.loop-c.rep) (class_at (set c.loop-c.rep c.loop-c.c c.lowest.result)) c.loop-c.c c.args.table.now.formed.lower
           (class_below c.loop-c.rep c.loop-c.c c.lowest.result (omega arith)) c.lowest.ensures.worded,
     )
 
 pub returns : goal.returns
 returns c =
-    let T = table_in c.args.table.now in
-    firsts_start c.args.n T c.requires.lower c.loop-c.rep c.loop-c.invariant.0
-    (firsts_all T c.requires.lower c.loop-c.rep (λ i h. c.requires.beyond i (omega (arith, c.requires.few))) (λ i h. c.loop-c.invariant.1 i (omega arith)))
+    let T = table_in c.args.table.now.words in
+    firsts_start c.args.table.now.count T c.args.table.now.formed.lower c.loop-c.rep c.loop-c.invariant.0
+    (firsts_all T c.args.table.now.formed.lower c.loop-c.rep (λ i h. c.args.table.now.formed.beyond i (omega (arith, c.args.table.now.formed.few))) (λ i h. c.loop-c.invariant.1 i (omega arith)))

@@ -9,4 +9,4 @@ use Rattle.classes.proofs.twins.start.Given as goal
 
 abbrev pub invariant-loop-c : goal.invariant-loop-c
 invariant-loop-c l =
-    (length l.rep ≡ 129) × ((i : ℕ) → i < l.c → First (table_in l.table) (class_at l.rep) i) × Worded l.n (table_in l.table) (class_at l.rep) l.c l.words
+    (length l.rep ≡ 129) × ((i : ℕ) → i < l.c → First (table_in l.table.words) (class_at l.rep) i) × Worded l.table.count (table_in l.table.words) (class_at l.rep) l.c l.words

@@ -5,4 +5,4 @@ use Rattle.classes.proofs.UpwardLaws.{Lifting}
 use Rattle.classes.proofs.upward.lift.Given as goal
 
 abbrev pub invariant-loop-c : goal.invariant-loop-c
-invariant-loop-c l = Lifting l.n (table_in l.table) l.initial.rep l.c l.rep l.tops l.links l.changed
+invariant-loop-c l = Lifting l.table.count (table_in l.table.words) l.initial.rep l.c l.rep l.tops l.links l.changed

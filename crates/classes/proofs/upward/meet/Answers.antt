@@ -22,7 +22,7 @@ returns-then-t-c c =
     (meets_link c.requires.solved c.requires.downward c.from-h.result c.fellow-t.ensures (rw c.from-i.ensures at (sym c.class_of.ensures ∙ c.if-class_of-i.false))
     (c.from-h.ensures ∙ c.key_of.ensures ∙ ap (key_of (class_at c.args.rep.now)) k)
     (subst Parted k (c.has_parts.ensures.yes c.if-not-has_parts.false)) (omega (arith, c.key_of.type_inv, c.from-h.ensures))
-    (omega (arith, c.requires.table_words.few, c.requires.c_lt_n)) c.if-t-c.true)
+    (omega (arith, c.args.table.now.formed.few, c.requires.c_lt_n)) c.if-t-c.true)
 
 pub returns : goal.returns
 returns c =

@@ -11,7 +11,7 @@ use Rattle.classes.proofs.upward.raise.Goals as goal
 
 pub returns : goal.returns
 returns c =
-    let T = table_in c.args.table.now in
+    let T = table_in c.args.table.now.words in
     let quiet = c.loop-test.false in
     let stage = stage_more c.loop.invariant c.lift.ensures.moved in
     record {
@@ -19,7 +19,7 @@ returns c =
       sat = stage.sat;
       most = stage.most;
       up = subst (λ (k : List ℕ). (x y : ℕ) → Alike (class_at k) (T x) (T y) → class_at k x ≡ class_at k y) (sym (c.lift.ensures.moved.still quiet))
-          (met_up c.requires.table_words c.loop.invariant.holds (c.lift.ensures.met quiet));
+          (met_up c.args.table.now.formed c.loop.invariant.holds (c.lift.ensures.met quiet));
     }
 
 pub loop-preserved : goal.loop-preserved

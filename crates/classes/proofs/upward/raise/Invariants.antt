@@ -5,7 +5,7 @@ use Rattle.classes.proofs.SettleLaws.{Stage}
 use Rattle.classes.proofs.upward.raise.Given as goal
 
 abbrev pub invariant-loop : goal.invariant-loop
-invariant-loop l = Stage (table_in l.table) (Solved l.n (table_in l.table)) l.initial.rep l.rep
+invariant-loop l = Stage (table_in l.table.words) (Solved l.table.count (table_in l.table.words)) l.initial.rep l.rep
 
 abbrev pub decreases-loop : goal.decreases-loop
 decreases-loop l = class_count l.rep

@@ -7,7 +7,7 @@ use Rattle.wants.proofs.spread.lower_once.Goals as goal
 use Rattle.wants.proofs.spread.lower_once.Goals.{After-reaches-in-loop-c, else-reaches, then-reaches}
 
 first : (c : After-reaches-in-loop-c) →
-    Half (table_in c.args.table.now) c.args.rep.now c.args.only.now c.args.flag c.args.marks.now c.if-reaches.marks c.if-reaches.changed c.args.n (c.loop-c.c - 1)
+    Half (table_in c.args.table.now.words) c.args.rep.now c.args.only.now c.args.flag c.args.marks.now c.if-reaches.marks c.if-reaches.changed c.args.table.now.count (c.loop-c.c - 1)
 first c =
     elim c.if-reaches.branch [
       | then-reaches w ↦ rw (w.marks-is, w.changed-is) (half_mark c.requires.class_row c.ends-e.ensures c.loop-c.invariant (omega arith) (c.reaches.ensures.yes w.if-reaches.true))

@@ -4,4 +4,4 @@ use Rattle.wants.specs.Spread.{Lowering}
 use Rattle.wants.proofs.spread.lower_once.Given as goal
 
 abbrev pub invariant-loop-c : goal.invariant-loop-c
-invariant-loop-c l = Lowering (table_in l.table) l.rep l.only l.flag l.initial.marks l.marks l.changed l.n l.c
+invariant-loop-c l = Lowering (table_in l.table.words) l.rep l.only l.flag l.initial.marks l.marks l.changed l.table.count l.c

@@ -3,4 +3,4 @@ use Rattle.wants.proofs.SpreadLaws.{lowered_still}
 use Rattle.wants.proofs.spread.lowered.Goals as goal
 
 pub returns : goal.returns
-returns c = lowered_still c.requires.table_words c.args.only.now c.args.flag c.loop.invariant c.lower_once.ensures c.loop-test.false
+returns c = lowered_still c.args.table.now.formed c.args.only.now c.args.flag c.loop.invariant c.lower_once.ensures c.loop-test.false

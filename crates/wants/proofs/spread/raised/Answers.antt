@@ -3,4 +3,4 @@ use Rattle.wants.proofs.SpreadLaws.{raised_still}
 use Rattle.wants.proofs.spread.raised.Goals as goal
 
 pub returns : goal.returns
-returns c = raised_still c.requires.table_words c.loop.invariant c.raise_once.ensures c.loop-test.false
+returns c = raised_still c.args.table.now.formed c.loop.invariant c.raise_once.ensures c.loop-test.false

@@ -7,4 +7,4 @@ use Rattle.wants.proofs.starts.ends.Goals as goal
 
 pub part_classes-requires : goal.part_classes-requires
 part_classes-requires c =
-    let e = sym c.cell_within.ensures in record { c_bound = subst (λ k. left_part k c.args.c ≤ 128) e (left_cell c.requires.table_words c.args.c c.requires.c_lt_n); c_bound_2 = subst (λ k. right_part k c.args.c ≤ 128) e (right_cell c.requires.table_words c.args.c c.requires.c_lt_n) }
+    let e = sym c.cell_within.ensures in record { c_bound = subst (λ k. left_part k c.args.c ≤ 128) e (left_cell c.args.table.now.formed c.args.c c.requires.c_lt_n); c_bound_2 = subst (λ k. right_part k c.args.c ≤ 128) e (right_cell c.args.table.now.formed c.args.c c.requires.c_lt_n) }
