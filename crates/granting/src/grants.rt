@@ -1,7 +1,7 @@
 // What may be seen and built before a position of the run, if keys that may be equal to a seen cell are granted.
 ghost use Rattle.std.specs.Prelude.{◌≡◌, true, ℕ, ◌≤◌, ◌<◌};
 ghost use Rattle.model.specs.Stored.{table_in};
-ghost use Rattle.theory.specs.Cells.{TableWords, RunWords};
+ghost use Rattle.theory.specs.Cells.{RunWords};
 ghost use Rattle.classes.specs.Kept.{Kept};
 ghost use Rattle.knowledge.specs.Knowledge.{MarkRow};
 ghost use Rattle.wants.specs.Starts.{BareTo, FreeAt};
@@ -27,49 +27,48 @@ pub struct Grant {
 
 // One round of the rules: the first of them that adds marks. Did any?
 #[tactic(auto, using(knowledge::proofs::ClassRows::kept_row))]
-fn round(table: &Table, n: usize, rep: &[u8; 129], run: &Run, p: usize, marks: &mut Marks) -> bool
-    requires table_words { TableWords n table.now }
-    requires kept { Kept n (table_in table.now) rep.now }
-    requires run_words { RunWords n run.now p }
+fn round(table: &Table, rep: &[u8; 129], run: &Run, p: usize, marks: &mut Marks) -> bool
+    requires kept { Kept table.now.count (table_in table.now.words) rep.now }
+    requires run_words { RunWords table.now.count run.now p }
     requires mark_row { MarkRow rep.now marks.old.seen }
     requires mark_row_2 { MarkRow rep.now marks.old.built }
-    ensures { Rounded (table_in table.now) n rep.now run.now p marks.old.seen marks.old.built marks.new.seen marks.new.built result }
+    ensures { Rounded (table_in table.now.words) table.now.count rep.now run.now p marks.old.seen marks.old.built marks.new.seen marks.new.built result }
 {
     let Turn {
         seen,
         built,
         changed,
-    } = sweep(table, n, rep, marks.seen, marks.built);
+    } = sweep(table, rep, marks.seen, marks.built);
     marks.seen = seen;
     marks.built = built;
     if changed {
         return true;
     }
-    let keys = needed(table, n, rep, &marks.seen, &marks.built, [0; 129]);
-    grant(table, n, rep, &keys, &marks.seen, &mut marks.built)
-        || leaked(table, n, rep, run, p, &mut marks.seen)
+    let keys = needed(table, rep, &marks.seen, &marks.built, [0; 129]);
+    grant(table, rep, &keys, &marks.seen, &mut marks.built)
+        || leaked(table, rep, run, p, &mut marks.seen)
 }
 
 // What may be seen and built before p, from marks on.
-fn closed(table: &Table, n: usize, rep: &[u8; 129], run: &Run, p: usize, o: Marks) -> Marks
-    requires table_words { TableWords n table.now }
-    requires kept { Kept n (table_in table.now) rep.now }
-    requires run_words { RunWords n run.now p }
+fn closed(table: &Table, rep: &[u8; 129], run: &Run, p: usize, o: Marks) -> Marks
+    requires kept { Kept table.now.count (table_in table.now.words) rep.now }
+    requires run_words { RunWords table.now.count run.now p }
     requires mark_row { MarkRow rep.now o.seen }
     requires mark_row_2 { MarkRow rep.now o.built }
-    ensures { Grants (table_in table.now) n rep.now run.now p o.seen o.built result.seen result.built }
+    ensures { Grants (table_in table.now.words) table.now.count rep.now run.now p o.seen o.built result.seen result.built }
 {
     let mut m = o;
-    while round(table, n, rep, run, p, &mut m) {}
+    while round(table, rep, run, p, &mut m) {}
     m
 }
 
 // Is no free class seen?
-fn is_calm(table: &Table, n: usize, seen: &[u8; 129]) -> bool
-    requires { n ≤ 128 }
-    ensures { result ≡ true → (c : ℕ) → c < n → FreeAt (table_in table.now) seen.now c → ⊥ }
+fn is_calm(table: &Table, seen: &[u8; 129]) -> bool
+    requires { table.now.count ≤ 128 }
+    ensures { result ≡ true → (c : ℕ) → c < table.now.count → FreeAt (table_in table.now.words) seen.now c → ⊥ }
 {
-    (0..n).all(|c| !free_at(table, seen, c))
+    let n = table.count;
+    (0..n).all(|c| !free_at(&table.words, seen, c))
 }
 
 // A guide: the costs before any is known: 254 of what is built, 255 of the rest.
@@ -79,23 +78,22 @@ fn start_costs(built: &[u8; 129]) -> [u8; 129] {
 
 // What is granted before p, from what was granted before.
 #[tactic(auto, using(knowledge::proofs::ClassRows::kept_row))]
-pub fn granted(table: &Table, n: usize, rep: &[u8; 129], run: &Run, p: usize, g: Grant) -> Grant
-    requires table_words { TableWords n table.now }
-    requires kept { Kept n (table_in table.now) rep.now }
-    requires run_words { RunWords n run.now p }
-    requires grant_rows { GrantRows (table_in table.now) n rep.now run.now g }
-    ensures rows { GrantRows (table_in table.now) n rep.now run.now result }
-    ensures marks { Grants (table_in table.now) n rep.now run.now p g.seen g.built result.seen result.built }
-    ensures bare { BareTo (table_in table.now) rep.now result.seen result.built result.bare n }
+pub fn granted(table: &Table, rep: &[u8; 129], run: &Run, p: usize, g: Grant) -> Grant
+    requires kept { Kept table.now.count (table_in table.now.words) rep.now }
+    requires run_words { RunWords table.now.count run.now p }
+    requires grant_rows { GrantRows (table_in table.now.words) table.now.count rep.now run.now g }
+    ensures rows { GrantRows (table_in table.now.words) table.now.count rep.now run.now result }
+    ensures marks { Grants (table_in table.now.words) table.now.count rep.now run.now p g.seen g.built result.seen result.built }
+    ensures bare { BareTo (table_in table.now.words) rep.now result.seen result.built result.bare table.now.count }
 {
     if g.calm {
         return g;
     }
     let Grant { seen, built, .. } = g;
-    let Marks { seen, built } = closed(table, n, rep, run, p, Marks { seen, built });
+    let Marks { seen, built } = closed(table, rep, run, p, Marks { seen, built });
     Grant {
-        calm: is_calm(table, n, &seen),
-        bare: bares(table, n, rep, &seen, &built),
+        calm: is_calm(table, &seen),
+        bare: bares(table, rep, &seen, &built),
         costs: start_costs(&built),
         seen,
         built,

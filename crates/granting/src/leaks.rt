@@ -1,7 +1,7 @@
 // What comes to light where a cell over a free class is equal to one that may be seen.
 ghost use Rattle.std.specs.Prelude.{◌≤◌, ◌<◌};
 ghost use Rattle.model.specs.Stored.{table_in};
-ghost use Rattle.theory.specs.Cells.{TableWords, RunWords};
+ghost use Rattle.theory.specs.Cells.{RunWords};
 ghost use Rattle.theory.specs.Decides.{Decides};
 ghost use Rattle.classes.specs.Kept.{Kept};
 ghost use Rattle.knowledge.specs.Knowledge.{MarkRow};
@@ -35,23 +35,21 @@ struct Against {
 #[tactic(auto, using(knowledge::proofs::ClassRows::kept_row))]
 fn leak_at(
     table: &Table,
-    n: usize,
     rep: &[u8; 129],
     held: &[u8; 129],
     seen: &[u8; 129],
     at: Against,
 ) -> Option<usize>
-    requires table_words { TableWords n table.now }
-    requires kept { Kept n (table_in table.now) rep.now }
-    requires c_lt_n { at.c < n }
-    requires d_lt_n { at.d < n }
-    requires ends_at { EndsAt (table_in table.now) rep.now at.c at.ends.left at.ends.right }
-    ensures { LeakTold (table_in table.now) rep.now held.now seen.now at.c at.d result }
+    requires kept { Kept table.now.count (table_in table.now.words) rep.now }
+    requires c_lt_n { at.c < table.now.count }
+    requires d_lt_n { at.d < table.now.count }
+    requires ends_at { EndsAt (table_in table.now.words) rep.now at.c at.ends.left at.ends.right }
+    ensures { LeakTold (table_in table.now.words) rep.now held.now seen.now at.c at.d result }
 {
     if seen[at.d] != 1 {
         return None;
     }
-    let f = ends(table, n, rep, at.d);
+    let f = ends(table, rep, at.d);
     let x = if bright(held, seen, at.ends.left, f.left) {
         f.left
     } else if bright(held, seen, at.ends.right, f.right) {
@@ -59,32 +57,31 @@ fn leak_at(
     } else {
         return None;
     };
-    may(table, n, rep, seen, at.c, at.d).then_some(x)
+    may(table, rep, seen, at.c, at.d).then_some(x)
 }
 
 // Marks as seen what comes to light of the cells that may be equal to c. Was any marked?
 #[tactic(auto, using(knowledge::proofs::ClassRows::kept_row))]
 fn leak_row(
     table: &Table,
-    n: usize,
     rep: &[u8; 129],
     held: &[u8; 129],
     seen: &mut [u8; 129],
     c: usize,
 ) -> bool
-    requires table_words { TableWords n table.now }
-    requires kept { Kept n (table_in table.now) rep.now }
+    requires kept { Kept table.now.count (table_in table.now.words) rep.now }
     requires mark_row { MarkRow rep.now seen.old }
-    requires c_lt_n { c < n }
-    ensures { LeakingRow (table_in table.now) rep.now held.now c seen.old seen.new result n }
+    requires c_lt_n { c < table.now.count }
+    ensures { LeakingRow (table_in table.now.words) rep.now held.now c seen.old seen.new result table.now.count }
 {
-    if !kin_at(table, c, c) {
+    let n = table.count;
+    if !kin_at(&table.words, c, c) {
         return false;
     }
-    let ends = ends(table, n, rep, c);
+    let ends = ends(table, rep, c);
     let mut changed = false;
     for d in 0..n {
-        if let Some(x) = leak_at(table, n, rep, held, seen, Against { c, ends, d }) {
+        if let Some(x) = leak_at(table, rep, held, seen, Against { c, ends, d }) {
             seen[x] = 1;
             changed = true;
         }
@@ -95,19 +92,18 @@ fn leak_row(
 // The same for the first cell of `over` where something comes to light.
 fn leak(
     table: &Table,
-    n: usize,
     rep: &[u8; 129],
     held: &[u8; 129],
     over: &[u8; 129],
     seen: &mut [u8; 129],
 ) -> bool
-    requires table_words { TableWords n table.now }
-    requires kept { Kept n (table_in table.now) rep.now }
+    requires kept { Kept table.now.count (table_in table.now.words) rep.now }
     requires mark_row { MarkRow rep.now seen.old }
-    ensures { Leaking (table_in table.now) n rep.now held.now over.now seen.old seen.new result }
+    ensures { Leaking (table_in table.now.words) table.now.count rep.now held.now over.now seen.old seen.new result }
 {
+    let n = table.count;
     for c in 0..n {
-        if over[c] == 1 && leak_row(table, n, rep, held, seen, c) {
+        if over[c] == 1 && leak_row(table, rep, held, seen, c) {
             return true;
         }
     }
@@ -116,21 +112,13 @@ fn leak(
 
 // Marks as seen what comes to light before p. Was any marked?
 #[tactic(auto, using(knowledge::proofs::ClassRows::kept_row))]
-pub fn leaked(
-    table: &Table,
-    n: usize,
-    rep: &[u8; 129],
-    run: &Run,
-    p: usize,
-    seen: &mut [u8; 129],
-) -> bool
-    requires table_words { TableWords n table.now }
-    requires kept { Kept n (table_in table.now) rep.now }
-    requires run_words { RunWords n run.now p }
+pub fn leaked(table: &Table, rep: &[u8; 129], run: &Run, p: usize, seen: &mut [u8; 129]) -> bool
+    requires kept { Kept table.now.count (table_in table.now.words) rep.now }
+    requires run_words { RunWords table.now.count run.now p }
     requires mark_row { MarkRow rep.now seen.old }
-    ensures { Leaked (table_in table.now) n rep.now run.now p seen.old seen.new result }
+    ensures { Leaked (table_in table.now.words) table.now.count rep.now run.now p seen.old seen.new result }
 {
-    let held = holds(table, n, rep, seen);
-    let top = over(table, n, rep, &held, run, p);
-    leak(table, n, rep, &held, &top, seen)
+    let held = holds(table, rep, seen);
+    let top = over(table, rep, &held, run, p);
+    leak(table, rep, &held, &top, seen)
 }

@@ -1,7 +1,6 @@
 // Ways down from what is to be made, part by part, through cells that are not built.
 ghost use Rattle.std.specs.Prelude.{ℕ, ◌<◌, ◌≤◌};
 ghost use Rattle.model.specs.Stored.{table_in};
-ghost use Rattle.theory.specs.Cells.{TableWords};
 ghost use Rattle.classes.specs.Kept.{Kept};
 ghost use Rattle.granting.specs.Line.{Whole, Lacking, Below, LineRow};
 
@@ -37,18 +36,11 @@ struct Depth {
 
 // A guide: how many pairs the best way down from c leaves to try, at most 254. In `costs` it is 255 where it is not known yet.
 #[tactic(auto, using(knowledge::proofs::ClassRows::kept_row))]
-fn cost(
-    table: &Table,
-    n: usize,
-    rep: &[u8; 129],
-    bare: &[u8; 129],
-    costs: &mut [u8; 129],
-    at: Depth,
-) -> u8
-    requires table_words { TableWords n table.now }
-    requires kept { Kept n (table_in table.now) rep.now }
-    requires cell_lt_n { at.cell < n }
+fn cost(table: &Table, rep: &[u8; 129], bare: &[u8; 129], costs: &mut [u8; 129], at: Depth) -> u8
+    requires kept { Kept table.now.count (table_in table.now.words) rep.now }
+    requires cell_lt_n { at.cell < table.now.count }
 {
+    let n = table.count;
     let c = at.cell;
     if costs[c] != 255 {
         return costs[c];
@@ -57,7 +49,7 @@ fn cost(
         return 254;
     }
     let levels = at.levels - 1;
-    let e = ends(table, n, rep, c);
+    let e = ends(table, rep, c);
     if e.right == c {
         costs[c] = 0;
         return 0;
@@ -70,33 +62,25 @@ fn cost(
         cell: e.left,
         levels,
     };
-    let r = cost(table, n, rep, bare, costs, right);
+    let r = cost(table, rep, bare, costs, right);
     let s = if r == 0 {
         0
     } else {
-        r.min(cost(table, n, rep, bare, costs, left))
+        r.min(cost(table, rep, bare, costs, left))
     };
-    costs[c] = live_row(n, s, |d| near(table, n, rep, bare, c, d));
+    costs[c] = live_row(n, s, |d| near(table, rep, bare, c, d));
     costs[c]
 }
 
 // A class of the parts of c that is not built: the one with the better way. For a cell without parts, its own.
 #[tactic(auto, using(knowledge::proofs::ClassRows::kept_row))]
-fn next(
-    table: &Table,
-    n: usize,
-    rep: &[u8; 129],
-    built: &[u8; 129],
-    costs: &[u8; 129],
-    c: usize,
-) -> usize
-    requires table_words { TableWords n table.now }
-    requires kept { Kept n (table_in table.now) rep.now }
-    requires whole { Whole (table_in table.now) rep.now built.now }
-    requires lacking { Lacking n rep.now built.now c }
-    ensures { Below (table_in table.now) n rep.now built.now c result }
+fn next(table: &Table, rep: &[u8; 129], built: &[u8; 129], costs: &[u8; 129], c: usize) -> usize
+    requires kept { Kept table.now.count (table_in table.now.words) rep.now }
+    requires whole { Whole (table_in table.now.words) rep.now built.now }
+    requires lacking { Lacking table.now.count rep.now built.now c }
+    ensures { Below (table_in table.now.words) table.now.count rep.now built.now c result }
 {
-    let e = ends(table, n, rep, c);
+    let e = ends(table, rep, c);
     let a = e.left;
     let b = e.right;
     if built[b] == 1 || (built[a] != 1 && costs[a] < costs[b]) {
@@ -109,23 +93,21 @@ fn next(
 // The cells of a way down from c, which is not built.
 fn way(
     table: &Table,
-    n: usize,
     rep: &[u8; 129],
     built: &[u8; 129],
     costs: &[u8; 129],
     goal: usize,
 ) -> [u8; 129]
-    requires table_words { TableWords n table.now }
-    requires kept { Kept n (table_in table.now) rep.now }
-    requires whole { Whole (table_in table.now) rep.now built.now }
-    requires lacking { Lacking n rep.now built.now goal }
-    ensures { LineRow (table_in table.now) rep.now built.now goal result }
+    requires kept { Kept table.now.count (table_in table.now.words) rep.now }
+    requires whole { Whole (table_in table.now.words) rep.now built.now }
+    requires lacking { Lacking table.now.count rep.now built.now goal }
+    ensures { LineRow (table_in table.now.words) rep.now built.now goal result }
 {
     let mut m = [0; 129];
     let mut c = goal;
     loop {
         m[c] = 1;
-        let x = next(table, n, rep, built, costs, c);
+        let x = next(table, rep, built, costs, c);
         if m[x] == 1 {
             return m;
         }
@@ -141,23 +123,16 @@ pub struct Lined {
 }
 
 // The best way down from the class c, which is not built; the costs that are worked out for it are kept.
-pub fn line(
-    table: &Table,
-    n: usize,
-    rep: &[u8; 129],
-    g: Grant,
-    costs: &mut [u8; 129],
-    c: usize,
-) -> Lined
-    requires table_words { TableWords n table.now }
-    requires kept { Kept n (table_in table.now) rep.now }
-    requires whole { Whole (table_in table.now) rep.now g.built }
-    requires lacking { Lacking n rep.now g.built c }
-    ensures { LineRow (table_in table.now) rep.now g.built c result.cells }
+pub fn line(table: &Table, rep: &[u8; 129], g: Grant, costs: &mut [u8; 129], c: usize) -> Lined
+    requires kept { Kept table.now.count (table_in table.now.words) rep.now }
+    requires whole { Whole (table_in table.now.words) rep.now g.built }
+    requires lacking { Lacking table.now.count rep.now g.built c }
+    ensures { LineRow (table_in table.now.words) rep.now g.built c result.cells }
 {
+    let n = table.count;
     let from = Depth { cell: c, levels: n };
     Lined {
-        pairs: cost(table, n, rep, &g.bare, costs, from),
-        cells: way(table, n, rep, &g.built, costs, c),
+        pairs: cost(table, rep, &g.bare, costs, from),
+        cells: way(table, rep, &g.built, costs, c),
     }
 }

@@ -1,7 +1,7 @@
 // Cells that may be equal to one that may be seen.
 ghost use Rattle.std.specs.Prelude.{◌≡◌, false, ◌<◌};
 ghost use Rattle.model.specs.Stored.{table_in};
-ghost use Rattle.theory.specs.Cells.{TableWords, On};
+ghost use Rattle.theory.specs.Cells.{On};
 ghost use Rattle.theory.specs.Decides.{Decides};
 ghost use Rattle.classes.specs.Kept.{Kept};
 ghost use Rattle.knowledge.specs.Knowledge.{MarkRow};
@@ -12,38 +12,36 @@ use classes::clash::clash;
 use classes::{class_of, unify};
 
 // Is d one of the row `marks`, of the kind of c and of another class, and is there no clash at once? If not, c may not be equal to such a d.
-pub fn near(table: &Table, n: usize, rep: &[u8; 129], marks: &[u8; 129], c: usize, d: usize) -> bool
-    requires table_words { TableWords n table.now }
-    requires kept { Kept n (table_in table.now) rep.now }
-    requires c_lt_n { c < n }
-    requires d_lt_n { d < n }
-    ensures { result ≡ false → On marks.now d → May (table_in table.now) rep.now c d → ⊥ }
+pub fn near(table: &Table, rep: &[u8; 129], marks: &[u8; 129], c: usize, d: usize) -> bool
+    requires kept { Kept table.now.count (table_in table.now.words) rep.now }
+    requires c_lt_n { c < table.now.count }
+    requires d_lt_n { d < table.now.count }
+    ensures { result ≡ false → On marks.now d → May (table_in table.now.words) rep.now c d → ⊥ }
 {
     marks[d] == 1
-        && kin_at(table, c, d)
+        && kin_at(&table.words, c, d)
         && class_of(rep, c) != class_of(rep, d)
-        && !clash(table, n, rep, c as u8, d as u8, 3)
+        && !clash(table, rep, c as u8, d as u8, 3)
 }
 
 // May c be equal to d, which is seen? If not, it is not.
-pub fn may(table: &Table, n: usize, rep: &[u8; 129], seen: &[u8; 129], c: usize, d: usize) -> bool
-    requires table_words { TableWords n table.now }
-    requires kept { Kept n (table_in table.now) rep.now }
-    requires c_lt_n { c < n }
-    requires d_lt_n { d < n }
-    ensures { result ≡ false → On seen.now d → May (table_in table.now) rep.now c d → ⊥ }
+pub fn may(table: &Table, rep: &[u8; 129], seen: &[u8; 129], c: usize, d: usize) -> bool
+    requires kept { Kept table.now.count (table_in table.now.words) rep.now }
+    requires c_lt_n { c < table.now.count }
+    requires d_lt_n { d < table.now.count }
+    ensures { result ≡ false → On seen.now d → May (table_in table.now.words) rep.now c d → ⊥ }
 {
-    near(table, n, rep, seen, c, d) && unify(table, n, *rep, c as u8, d as u8).ok
+    near(table, rep, seen, c, d) && unify(table, *rep, c as u8, d as u8).ok
 }
 
 // May c be equal to a cell that is seen? If not, it is not.
-fn meets(table: &Table, n: usize, rep: &[u8; 129], seen: &[u8; 129], c: usize) -> bool
-    requires table_words { TableWords n table.now }
-    requires kept { Kept n (table_in table.now) rep.now }
-    requires c_lt_n { c < n }
-    ensures { result ≡ false → Alone (table_in table.now) rep.now seen.now c n }
+fn meets(table: &Table, rep: &[u8; 129], seen: &[u8; 129], c: usize) -> bool
+    requires kept { Kept table.now.count (table_in table.now.words) rep.now }
+    requires c_lt_n { c < table.now.count }
+    ensures { result ≡ false → Alone (table_in table.now.words) rep.now seen.now c table.now.count }
 {
-    kin_at(table, c, c) && (0..n).any(|d| may(table, n, rep, seen, c, d))
+    let n = table.count;
+    kin_at(&table.words, c, c) && (0..n).any(|d| may(table, rep, seen, c, d))
 }
 
 // Is c one of the row `keys` that is not built?
@@ -57,21 +55,20 @@ fn lacks(keys: &[u8; 129], built: &[u8; 129], c: usize) -> bool
 // Marks as built the cells of the row `keys` that may be equal to a cell that is seen. Was any marked?
 pub fn grant(
     table: &Table,
-    n: usize,
     rep: &[u8; 129],
     keys: &[u8; 129],
     seen: &[u8; 129],
     built: &mut [u8; 129],
 ) -> bool
-    requires table_words { TableWords n table.now }
-    requires kept { Kept n (table_in table.now) rep.now }
+    requires kept { Kept table.now.count (table_in table.now.words) rep.now }
     requires mark_row { MarkRow rep.now keys.now }
     requires mark_row_2 { MarkRow rep.now built.old }
-    ensures { Granting (table_in table.now) n rep.now keys.now seen.now built.old built.new result n }
+    ensures { Granting (table_in table.now.words) table.now.count rep.now keys.now seen.now built.old built.new result table.now.count }
 {
+    let n = table.count;
     let mut changed = false;
     for c in 0..n {
-        if lacks(keys, built, c) && meets(table, n, rep, seen, c) {
+        if lacks(keys, built, c) && meets(table, rep, seen, c) {
             built[c] = 1;
             changed = true;
         }

@@ -7,11 +7,11 @@ use cells::{Table, is_variable};
 use classes::class_of;
 
 // The entry of a variable whose class the cell r stands for.
-fn value_of(table: &Table, n: usize, r: usize) -> u8
-    requires { n ≤ 128 }
-    ensures { Valued (table_in table.now) n r result }
+fn value_of(table: &Table, r: usize) -> u8
+    ensures { Valued (table_in table.now.words) table.now.count r result }
 {
-    if n <= r || is_variable(table, r) {
+    let n = table.count;
+    if n <= r || is_variable(&table.words, r) {
         255
     } else {
         r as u8
@@ -19,26 +19,25 @@ fn value_of(table: &Table, n: usize, r: usize) -> u8
 }
 
 // The entry of the cell c.
-fn entry_of(table: &Table, n: usize, rep: &[u8; 129], c: usize) -> u8
-    requires n_bound { n ≤ 128 }
-    requires c_lt_n { c < n }
-    ensures { Entered (table_in table.now) n rep.now c result }
+fn entry_of(table: &Table, rep: &[u8; 129], c: usize) -> u8
+    requires c_lt_n { c < table.now.count }
+    ensures { Entered (table_in table.now.words) table.now.count rep.now c result }
 {
-    if is_variable(table, c) {
-        value_of(table, n, class_of(rep, c))
+    if is_variable(&table.words, c) {
+        value_of(table, class_of(rep, c))
     } else {
         c as u8
     }
 }
 
 // The list of the classes: for each variable the cell that stands for its class, or 255; for any other cell its own number.
-pub fn value_list(table: &Table, n: usize, rep: &[u8; 129]) -> [u8; 128]
-    requires { n ≤ 128 }
-    ensures { Listed (table_in table.now) n rep.now result n }
+pub fn value_list(table: &Table, rep: &[u8; 129]) -> [u8; 128]
+    ensures { Listed (table_in table.now.words) table.now.count rep.now result table.now.count }
 {
+    let n = table.count;
     let mut out = [0; 128];
     for c in 0..n {
-        out[c] = entry_of(table, n, rep, c);
+        out[c] = entry_of(table, rep, c);
     }
     out
 }

@@ -4,7 +4,7 @@ ghost use Rattle.model.specs.Stored.{table_in};
 ghost use Rattle.theory.specs.Decides.{Decides};
 ghost use Rattle.solving.specs.Pairs.{Mirrored, Pairs, place, InRow, NextPair};
 
-use cells::{Table, kin_at};
+use cells::{Table, Words, kin_at};
 use classes::class_of;
 use granting::Place;
 
@@ -19,7 +19,7 @@ fn mirrored(want: &[u8; 129], bare: &[u8; 129], c: usize, d: usize) -> bool
 
 // Is c a wanted cell that is to be made equal to the bare cell d?
 pub fn pairing(
-    table: &Table,
+    words: &Words,
     rep: &[u8; 129],
     want: &[u8; 129],
     bare: &[u8; 129],
@@ -28,51 +28,48 @@ pub fn pairing(
 ) -> bool
     requires c_bound { c < 128 }
     requires d_bound { d < 128 }
-    ensures { Decides result (Pairs (table_in table.now) rep.now want.now bare.now c d) }
+    ensures { Decides result (Pairs (table_in words.now) rep.now want.now bare.now c d) }
 {
     want[c] == 1
         && bare[d] == 1
         && class_of(rep, c) != class_of(rep, d)
         && !mirrored(want, bare, c, d)
-        && kin_at(table, c, d)
+        && kin_at(words, c, d)
 }
 
 // The first cell from `from.d` on that is a pair with the cell `from.c`.
 fn in_row(
     table: &Table,
-    n: usize,
     rep: &[u8; 129],
     want: &[u8; 129],
     bare: &[u8; 129],
     from: Place,
 ) -> Option<usize>
-    requires n_bound { n ≤ 128 }
-    requires c_lt_n { from.c < n }
-    ensures { InRow (table_in table.now) n rep.now want.now bare.now from.c from.d result }
+    requires c_lt_n { from.c < table.now.count }
+    ensures { InRow (table_in table.now.words) table.now.count rep.now want.now bare.now from.c from.d result }
 {
     // The row of a cell that is not wanted has no pair: it need not be gone through.
     if want[from.c] != 1 {
         return None;
     }
-    (from.d..n).find(|d| pairing(table, rep, want, bare, from.c, *d))
+    (from.d..table.count).find(|d| pairing(&table.words, rep, want, bare, from.c, *d))
 }
 
 // The next pair from the place `from` on, row by row.
 pub fn next_pair(
     table: &Table,
-    n: usize,
     rep: &[u8; 129],
     want: &[u8; 129],
     bare: &[u8; 129],
     from: Place,
 ) -> Option<Place>
-    requires n_bound { n ≤ 128 }
     requires d_bound { from.d ≤ 128 }
-    ensures { NextPair (table_in table.now) n rep.now want.now bare.now (place from.c from.d) result }
+    ensures { NextPair (table_in table.now.words) table.now.count rep.now want.now bare.now (place from.c from.d) result }
 {
+    let n = table.count;
     let mut d = from.d;
     for c in from.c..n {
-        if let Some(d) = in_row(table, n, rep, want, bare, Place { c, d }) {
+        if let Some(d) = in_row(table, rep, want, bare, Place { c, d }) {
             return Some(Place { c, d });
         }
         d = 0;

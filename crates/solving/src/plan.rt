@@ -1,7 +1,7 @@
 // The choice of what is tried at one step: a position where what is to be made is not built, and the cells that may have to be made equal there.
 ghost use Rattle.std.specs.Prelude.{◌≤◌, ◌<◌, ◌+◌};
 ghost use Rattle.model.specs.Stored.{table_in, run_in};
-ghost use Rattle.theory.specs.Cells.{TableWords, RunWords};
+ghost use Rattle.theory.specs.Cells.{RunWords};
 ghost use Rattle.classes.specs.Kept.{Kept, Solved};
 ghost use Rattle.knowledge.specs.Knowledge.{ClassRow, MarkRow};
 ghost use Rattle.wants.specs.Starts.{BareTo};
@@ -47,35 +47,29 @@ struct Stage {
 }
 
 // A guide: the number of pairs in the row of c that do not clash at once.
-fn live_row(
-    table: &Table,
-    n: usize,
-    rep: &[u8; 129],
-    want: &[u8; 129],
-    bare: &[u8; 129],
-    c: usize,
-) -> u8
-    requires table_words { TableWords n table.now }
-    requires kept { Kept n (table_in table.now) rep.now }
-    requires c_lt_n { c < n }
+fn live_row(table: &Table, rep: &[u8; 129], want: &[u8; 129], bare: &[u8; 129], c: usize) -> u8
+    requires kept { Kept table.now.count (table_in table.now.words) rep.now }
+    requires c_lt_n { c < table.now.count }
 {
+    let n = table.count;
     (0..n)
         .filter(|d| {
-            pairing(table, rep, want, bare, c, *d) && !clash(table, n, rep, c as u8, *d as u8, 3)
+            pairing(&table.words, rep, want, bare, c, *d)
+                && !clash(table, rep, c as u8, *d as u8, 3)
         })
         .count() as u8
 }
 
 // A guide: the number of such pairs, up to 254.
-fn live(table: &Table, n: usize, rep: &[u8; 129], want: &[u8; 129], bare: &[u8; 129]) -> u8
-    requires table_words { TableWords n table.now }
-    requires kept { Kept n (table_in table.now) rep.now }
+fn live(table: &Table, rep: &[u8; 129], want: &[u8; 129], bare: &[u8; 129]) -> u8
+    requires kept { Kept table.now.count (table_in table.now.words) rep.now }
 {
+    let n = table.count;
     let mut k: u8 = 0;
     for c in 0..n {
         if want[c] == 1 {
             k = k
-                .saturating_add(live_row(table, n, rep, want, bare, c))
+                .saturating_add(live_row(table, rep, want, bare, c))
                 .min(254);
         }
     }
@@ -83,33 +77,31 @@ fn live(table: &Table, n: usize, rep: &[u8; 129], want: &[u8; 129], bare: &[u8; 
 }
 
 // All cells that may help at the MK at p, and the bare ones, by the marks of what is seen and built.
-fn by_all(table: &Table, n: usize, rep: &[u8; 129], o: Marks, run: &Run, p: usize) -> Trial
-    requires table_words { TableWords n table.now }
-    requires kept { Kept n (table_in table.now) rep.now }
+fn by_all(table: &Table, rep: &[u8; 129], o: Marks, run: &Run, p: usize) -> Trial
+    requires kept { Kept table.now.count (table_in table.now.words) rep.now }
     requires mark_row { MarkRow rep.now o.seen }
     requires mark_row_2 { MarkRow rep.now o.built }
-    requires run_words { RunWords n run.now (p + 1) }
-    ensures want { WantedRow (table_in table.now) rep.now o.seen o.built run.now p result.want }
-    ensures bare { BareTo (table_in table.now) rep.now o.seen o.built result.bare n }
+    requires run_words { RunWords table.now.count run.now (p + 1) }
+    ensures want { WantedRow (table_in table.now.words) rep.now o.seen o.built run.now p result.want }
+    ensures bare { BareTo (table_in table.now.words) rep.now o.seen o.built result.bare table.now.count }
 {
-    let want = wanted(table, n, rep, o, run, p);
-    let bare = bares(table, n, rep, &o.seen, &o.built);
+    let want = wanted(table, rep, o, run, p);
+    let bare = bares(table, rep, &o.seen, &o.built);
     Trial {
-        pairs: live(table, n, rep, &want, &bare),
+        pairs: live(table, rep, &want, &bare),
         want,
         bare,
     }
 }
 
 // A way down from the class t, which is not built by what is granted, with the cells that are bare by it. The costs that were found stay with what is granted.
-fn by_line(table: &Table, n: usize, rep: &[u8; 129], g: &mut Grant, t: usize) -> Trial
-    requires table_words { TableWords n table.now }
-    requires kept { Kept n (table_in table.now) rep.now }
-    requires whole { Whole (table_in table.now) rep.now g.old.built }
-    requires lacking { Lacking n rep.now g.old.built t }
-    ensures { LineChance (table_in table.now) rep.now g.old t result g.new }
+fn by_line(table: &Table, rep: &[u8; 129], g: &mut Grant, t: usize) -> Trial
+    requires kept { Kept table.now.count (table_in table.now.words) rep.now }
+    requires whole { Whole (table_in table.now.words) rep.now g.old.built }
+    requires lacking { Lacking table.now.count rep.now g.old.built t }
+    ensures { LineChance (table_in table.now.words) rep.now g.old t result g.new }
 {
-    let l = line(table, n, rep, *g, &mut g.costs, t);
+    let l = line(table, rep, *g, &mut g.costs, t);
     // The borrow checker takes an array into a literal from a variable only, not from a field.
     let want = l.cells;
     let bare = g.bare;
@@ -137,42 +129,41 @@ fn better(best: Option<Choice>, trial: Trial, p: usize, dead: u16) -> Choice
 }
 
 // The marks of what is seen and built: if fresh, these; else found from those of what is seen.
-fn opened(table: &Table, n: usize, rep: &[u8; 129], fresh: bool, o: Marks) -> Marks
-    requires table_words { TableWords n table.now }
-    requires class_row { ClassRow n rep.now }
+fn opened(table: &Table, rep: &[u8; 129], fresh: bool, o: Marks) -> Marks
+    requires class_row { ClassRow table.now.count rep.now }
     requires mark_row { MarkRow rep.now o.seen }
     requires mark_row_2 { MarkRow rep.now o.built }
-    ensures { Reopened (table_in table.now) rep.now fresh o.seen o.built result }
+    ensures { Reopened (table_in table.now.words) rep.now fresh o.seen o.built result }
 {
     if fresh {
         o
     } else {
-        open_known(table, n, rep, o.seen)
+        open_known(table, rep, o.seen)
     }
 }
 
 // Takes the stage past the MK at p. Where what is to be made is not built, a way down is tried if it is not built by what is granted either, with the cells that are bare by that;
 // else all that may help.
-fn make(table: &Table, n: usize, rep: &[u8; 129], run: &Run, p: usize, st: &mut Stage)
-    requires table_words { TableWords n table.now }
-    requires solved { Solved n (table_in table.now) rep.now }
-    requires run_words { RunWords n run.now (p + 1) }
-    requires stage_rows { StageRows (table_in table.now) n rep.now run.now st.old }
-    ensures rows { StageRows (table_in table.now) n rep.now run.now st.new }
-    ensures made { MadeStage (table_in table.now) n rep.now run.now p st.old st.new }
+fn make(table: &Table, rep: &[u8; 129], run: &Run, p: usize, st: &mut Stage)
+    requires solved { Solved table.now.count (table_in table.now.words) rep.now }
+    requires run_words { RunWords table.now.count run.now (p + 1) }
+    requires stage_rows { StageRows (table_in table.now.words) table.now.count rep.now run.now st.old }
+    ensures rows { StageRows (table_in table.now.words) table.now.count rep.now run.now st.new }
+    ensures made { MadeStage (table_in table.now.words) table.now.count rep.now run.now p st.old st.new }
 {
+    let n = table.count;
     let aim = aim_of(event_at(run, p));
-    st.marks = opened(table, n, rep, st.fresh, st.marks);
+    st.marks = opened(table, rep, st.fresh, st.marks);
     st.fresh = true;
     if has(n, rep, &st.marks.built, aim) {
         return;
     }
-    st.grant = granted(table, n, rep, run, p, st.grant);
+    st.grant = granted(table, rep, run, p, st.grant);
     let t = class_of(rep, cell(aim));
     let trial = if st.grant.built[t] == 1 {
-        by_all(table, n, rep, st.marks, run, p)
+        by_all(table, rep, st.marks, run, p)
     } else {
-        by_line(table, n, rep, &mut st.grant, t)
+        by_line(table, rep, &mut st.grant, t)
     };
     st.best = Some(better(st.best, trial, p, st.dead));
 }
@@ -193,16 +184,16 @@ fn hear(n: usize, rep: &[u8; 129], x: u8, st: &mut Stage)
 }
 
 // Takes the stage past the event at p.
-fn step(table: &Table, n: usize, rep: &[u8; 129], run: &Run, p: usize, st: &mut Stage)
-    requires table_words { TableWords n table.now }
-    requires solved { Solved n (table_in table.now) rep.now }
-    requires run_words { RunWords n run.now (p + 1) }
-    requires stage_rows { StageRows (table_in table.now) n rep.now run.now st.old }
-    ensures rows { StageRows (table_in table.now) n rep.now run.now st.new }
-    ensures stepped { Stepped (table_in table.now) n rep.now run.now p st.old st.new }
+fn step(table: &Table, rep: &[u8; 129], run: &Run, p: usize, st: &mut Stage)
+    requires solved { Solved table.now.count (table_in table.now.words) rep.now }
+    requires run_words { RunWords table.now.count run.now (p + 1) }
+    requires stage_rows { StageRows (table_in table.now.words) table.now.count rep.now run.now st.old }
+    ensures rows { StageRows (table_in table.now.words) table.now.count rep.now run.now st.new }
+    ensures stepped { Stepped (table_in table.now.words) table.now.count rep.now run.now p st.old st.new }
 {
+    let n = table.count;
     match event_at(run, p) {
-        Event::Make(_) => make(table, n, rep, run, p, st),
+        Event::Make(_) => make(table, rep, run, p, st),
         Event::Learn(x) => hear(n, rep, x, st),
     }
 }
@@ -233,21 +224,20 @@ fn first_stage(own: [u8; 129]) -> Stage
 // The plan of a step; none, if everything that is to be made is built. Positions with dead ends before are taken sooner; a plan with one pair at most is good enough to look no further.
 pub fn plan(
     table: &Table,
-    n: usize,
     rep: &[u8; 129],
     run: &Run,
     count: usize,
     dead: &[u16; 128],
 ) -> Option<Choice>
-    requires table_words { TableWords n table.now }
-    requires solved { Solved n (table_in table.now) rep.now }
-    requires run_words { RunWords n run.now count }
-    ensures { Plans (table_in table.now) (run_in count run.now) rep.now result }
+    requires solved { Solved table.now.count (table_in table.now.words) rep.now }
+    requires run_words { RunWords table.now.count run.now count }
+    ensures { Plans (table_in table.now.words) (run_in count run.now) rep.now result }
 {
+    let n = table.count;
     let mut st = first_stage(own_marks(n, rep));
     for p in 0..count {
         st.dead = dead[p];
-        step(table, n, rep, run, p, &mut st);
+        step(table, rep, run, p, &mut st);
         if let Some(best) = &st.best
             && best.trial.pairs <= 1
         {

@@ -12,7 +12,7 @@ returns c =
       rows = record {
         seen_marked = c.closed.ensures.more.seen_marked;
         built_marked = c.closed.ensures.more.built_marked;
-        still = λ e. calm_still c.requires.table_words (c.is_calm.ensures e) c.closed.ensures.still;
+        still = λ e. calm_still c.args.table.now.formed (c.is_calm.ensures e) c.closed.ensures.still;
         bares = λ _. c.bares.ensures;
       };
       marks = c.closed.ensures;

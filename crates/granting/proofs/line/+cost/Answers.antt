@@ -5,8 +5,8 @@ use Rattle.granting.proofs.line.+cost.Goals as goal
 
 pub cost-r-requires : goal.cost-r-requires
 cost-r-requires t c =
-    let s = c.requires in (omega (arith, c.decreases), (s.table_words, (s.kept, right_inside s.table_words s.kept c.args.at.cell c.ends-e.ensures s.cell_lt_n)))
+    let s = c.requires in (omega (arith, c.decreases), (s.kept, right_inside c.args.table.now.formed s.kept c.args.at.cell c.ends-e.ensures s.cell_lt_n))
 
 pub cost-requires : goal.cost-requires
 cost-requires t c =
-    let s = c.requires in (omega (arith, c.decreases), (s.table_words, (s.kept, left_inside s.table_words s.kept c.args.at.cell c.ends-e.ensures s.cell_lt_n)))
+    let s = c.requires in (omega (arith, c.decreases), (s.kept, left_inside c.args.table.now.formed s.kept c.args.at.cell c.ends-e.ensures s.cell_lt_n))

@@ -8,7 +8,7 @@ use Rattle.granting.specs.Line.{Lacking, Walk}
 use Rattle.granting.proofs.line.way.Given as goal
 
 abbrev pub invariant-loop-m : goal.invariant-loop-m
-invariant-loop-m l = Walk (table_in l.table) l.rep l.built l.m l.c × Lacking l.n l.rep l.built l.c × (On l.m l.c → ⊥) × (On l.m l.goal ⊎ (l.goal ≡ l.c))
+invariant-loop-m l = Walk (table_in l.table.words) l.rep l.built l.m l.c × Lacking l.table.count l.rep l.built l.c × (On l.m l.c → ⊥) × (On l.m l.goal ⊎ (l.goal ≡ l.c))
 
 abbrev pub decreases-loop-m : goal.decreases-loop-m
 decreases-loop-m l = missing l.m

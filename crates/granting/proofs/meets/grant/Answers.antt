@@ -6,7 +6,7 @@ use Rattle.granting.proofs.meets.grant.Goals.{then-lacks+then-meets, else-lacks,
 
 pub loop-c-preserved : goal.loop-c-preserved
 loop-c-preserved c = elim c.if-lacks.branch [
-  | then-lacks+then-meets w ↦ rw (w.built-is, w.changed-is) (granting_mark c.loop-c.invariant (omega (arith, c.requires.table_words.few)) c.requires.mark_row (c.lacks.ensures.yes w.if-lacks.true))
+  | then-lacks+then-meets w ↦ rw (w.built-is, w.changed-is) (granting_mark c.loop-c.invariant (omega (arith, c.args.table.now.formed.few)) c.requires.mark_row (c.lacks.ensures.yes w.if-lacks.true))
   | else-lacks w ↦ rw (w.built-is, w.changed-is) (elim w.else-lacks.branch [
     | else-lacks-via-then-lacks+else-meets v ↦ granting_alone c.loop-c.invariant (v.meets.ensures v.if-meets.false)
     | else-lacks-via-else-lacks v ↦ granting_had c.loop-c.invariant (c.lacks.ensures.no v.if-lacks.false)

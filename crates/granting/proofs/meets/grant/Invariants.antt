@@ -4,4 +4,4 @@ use Rattle.granting.specs.Meets.{Granting}
 use Rattle.granting.proofs.meets.grant.Given as goal
 
 abbrev pub invariant-loop-c : goal.invariant-loop-c
-invariant-loop-c l = Granting (table_in l.table) l.n l.rep l.keys l.seen l.fn.built l.built l.changed l.c
+invariant-loop-c l = Granting (table_in l.table.words) l.table.count l.rep l.keys l.seen l.fn.built l.built l.changed l.c

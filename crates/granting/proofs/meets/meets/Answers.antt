@@ -16,6 +16,6 @@ pub returns-else-kin_at : goal.returns-else-kin_at
 returns-else-kin_at c e = λ _ _ _ w. c.kin_at.ensures.no e (kin_self w.kin)
 
 pub returns-then-kin_at : goal.returns-then-kin_at
-returns-then-kin_at c e = within_range (λ d. On c.args.seen.now d → May (table_in c.args.table.now) c.args.rep.now c.args.c d → ⊥)
-    (MatchBool-at_false _ _ e (cases_from_any _ _ c.any.result (λ _. Unit {0}) (λ d. On c.args.seen.now d → May (table_in c.args.table.now) c.args.rep.now c.args.c d → ⊥)
-    c.any.ensures.ran (YieldsList-from_range 0 c.args.n c.args.n refl (omega arith)) (λ x q k. search (rules, tests)) (λ x q k. search (rules, tests))))
+returns-then-kin_at c e = within_range (λ d. On c.args.seen.now d → May (table_in c.args.table.now.words) c.args.rep.now c.args.c d → ⊥)
+    (MatchBool-at_false _ _ e (cases_from_any _ _ c.any.result (λ _. Unit {0}) (λ d. On c.args.seen.now d → May (table_in c.args.table.now.words) c.args.rep.now c.args.c d → ⊥)
+    c.any.ensures.ran (YieldsList-from_range 0 c.args.table.now.count c.args.table.now.count refl (omega arith)) (λ x q k. search (rules, tests)) (λ x q k. search (rules, tests))))

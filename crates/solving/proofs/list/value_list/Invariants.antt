@@ -4,4 +4,4 @@ use Rattle.solving.specs.Listing.{Listed}
 use Rattle.solving.proofs.list.value_list.Given as goal
 
 abbrev pub invariant-loop-c : goal.invariant-loop-c
-invariant-loop-c l = Listed (table_in l.table) l.n l.rep l.out l.c
+invariant-loop-c l = Listed (table_in l.table.words) l.table.count l.rep l.out l.c

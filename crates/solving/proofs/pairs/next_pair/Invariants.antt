@@ -6,4 +6,4 @@ use Rattle.solving.proofs.pairs.next_pair.Given as goal
 
 abbrev pub invariant-loop-c : goal.invariant-loop-c
 invariant-loop-c l =
-    NoPair (table_in l.table) l.n l.rep l.want l.bare (place l.fn.from.c l.fn.from.d) (place l.c l.d) × (place l.fn.from.c l.fn.from.d ≤ place l.c l.d) × (l.d ≤ 128)
+    NoPair (table_in l.table.words) l.table.count l.rep l.want l.bare (place l.fn.from.c l.fn.from.d) (place l.c l.d) × (place l.fn.from.c l.fn.from.d ≤ place l.c l.d) × (l.d ≤ 128)

@@ -5,7 +5,7 @@ use Rattle.solving.proofs.plan.by_all.Goals as goal
 pub wanted-want-requires : goal.wanted-want-requires
 wanted-want-requires c =
     let s = c.requires in
-    record { table_words = s.table_words; class_row = kept_row s.table_words s.kept; mark_row = s.mark_row; mark_row_2 = s.mark_row_2; run_words = s.run_words }
+    record { class_row = kept_row c.args.table.now.formed s.kept; mark_row = s.mark_row; mark_row_2 = s.mark_row_2; run_words = s.run_words }
 
 pub bares-bare-requires : goal.bares-bare-requires
-bares-bare-requires c = record { table_words = c.requires.table_words; class_row = kept_row c.requires.table_words c.requires.kept }
+bares-bare-requires c = record { class_row = kept_row c.args.table.now.formed c.requires.kept }

@@ -5,11 +5,11 @@ use Rattle.solving.proofs.PlanLaws.{staged_first, staged_dead, rows_first, plann
 use Rattle.solving.proofs.plan.plan.Goals as goal
 
 pub own_marks-requires : goal.own_marks-requires
-own_marks-requires c = kept_row c.requires.table_words c.requires.solved.kept
+own_marks-requires c = kept_row c.args.table.now.formed c.requires.solved.kept
 
 pub loop-p-init : goal.loop-p-init
 loop-p-init c = (
-  staged_first c.requires.table_words c.requires.solved (run_in c.args.count c.args.run.now) c.first_stage-st.ensures c.own_marks.ensures,
+  staged_first c.args.table.now.formed c.requires.solved (run_in c.args.count c.args.run.now) c.first_stage-st.ensures c.own_marks.ensures,
   rows_first c.first_stage-st.ensures c.own_marks.ensures.marked,
 )
 

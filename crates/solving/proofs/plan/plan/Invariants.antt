@@ -4,4 +4,4 @@ use Rattle.solving.specs.Plans.{StageRows, Staged}
 use Rattle.solving.proofs.plan.plan.Given as goal
 
 abbrev pub invariant-loop-p : goal.invariant-loop-p
-invariant-loop-p l = Staged (table_in l.table) l.n (run_in l.count l.run) l.rep l.p l.st × StageRows (table_in l.table) l.n l.rep l.run l.st
+invariant-loop-p l = Staged (table_in l.table.words) l.table.count (run_in l.count l.run) l.rep l.p l.st × StageRows (table_in l.table.words) l.table.count l.rep l.run l.st

@@ -12,7 +12,7 @@ use Rattle.solving.proofs.plan.step.Goals as goal
 
 pub hear-requires : goal.hear-requires
 hear-requires c =
-    let told = sym c.event_at.ensures ∙ ap as_event c.in-Learn.is in record { class_row = kept_row c.requires.table_words c.requires.solved.kept; mark_row = c.requires.stage_rows.seen; mark_row_2 = c.requires.stage_rows.grant.seen_marked; x_lt_n = subst (λ k. aim k < c.args.n) told (c.requires.run_words.below c.args.p (omega arith)); n_bound = c.requires.table_words.few }
+    let told = sym c.event_at.ensures ∙ ap as_event c.in-Learn.is in record { class_row = kept_row c.args.table.now.formed c.requires.solved.kept; mark_row = c.requires.stage_rows.seen; mark_row_2 = c.requires.stage_rows.grant.seen_marked; x_lt_n = subst (λ k. aim k < c.args.table.now.count) told (c.requires.run_words.below c.args.p (omega arith)); n_bound = c.args.table.now.formed.few }
 
 pub returns-in-Make : goal.returns-in-Make
 returns-in-Make c =
@@ -22,6 +22,6 @@ pub returns-in-Learn : goal.returns-in-Learn
 returns-in-Learn c =
     let told = sym c.event_at.ensures ∙ ap as_event c.in-Learn.is in record {
       rows = rows_heard c.hear.ensures c.requires.stage_rows;
-      stepped = λ count lt v. staged_heard c.hear.ensures (kept_row c.requires.table_words c.requires.solved.kept) (table_in c.args.table.now) c.args.n (run_in count c.args.run.now) c.args.p
+      stepped = λ count lt v. staged_heard c.hear.ensures (kept_row c.args.table.now.formed c.requires.solved.kept) (table_in c.args.table.now.words) c.args.table.now.count (run_in count c.args.run.now) c.args.p
           (run_at count c.args.run.now c.args.p lt ∙ ap some told) v;
     }

@@ -5,4 +5,4 @@ use Rattle.solving.proofs.ChildLaws.{joined_raised}
 use Rattle.solving.proofs.search.joined.Goals as goal
 
 pub returns : goal.returns
-returns c = joined_raised (table_in c.args.table.now) c.args.n c.args.rep.now c.args.x c.args.y _ c.unify-u.ensures (not-false _ c.if-not-u.false) c.raise.ensures
+returns c = joined_raised (table_in c.args.table.now.words) c.args.table.now.count c.args.rep.now c.args.x c.args.y _ c.unify-u.ensures (not-false _ c.if-not-u.false) c.raise.ensures

@@ -9,20 +9,20 @@ pub returns-in_err-pair : goal.returns-in_err-pair
 returns-in_err-pair c =
     let a = c.args in
     rw c.from_residual.ensures
-    (child_none (table_in a.table.now) a.n a.rep.now a.want.now a.bare.now c.requires.table_words.few (place a.from.c a.from.d) c.loop-pair.after.c c.loop-pair.after.d
+    (child_none (table_in a.table.now.words) a.table.now.count a.rep.now a.want.now a.bare.now c.args.table.now.formed.few (place a.from.c a.from.d) c.loop-pair.after.c c.loop-pair.after.d
     c.loop-pair.invariant.0 c.in_err-pair.ensures)
 
 pub returns-in-Some : goal.returns-in-Some
 returns-in-Some c =
     let a = c.args in
-    child_found (table_in a.table.now) a.n a.rep.now a.want.now a.bare.now c.requires.table_words.few (place a.from.c a.from.d) c.loop-pair.after.c c.loop-pair.after.d
+    child_found (table_in a.table.now.words) a.table.now.count a.rep.now a.want.now a.bare.now c.args.table.now.formed.few (place a.from.c a.from.d) c.loop-pair.after.c c.loop-pair.after.d
     c.loop-pair.invariant.0 c.in_ok-pair.pair c.in_ok-pair.ensures c.in-Some.ensures c.loop-pair.invariant.1
 
 pub loop-pair-preserved : goal.loop-pair-preserved
 loop-pair-preserved c =
     let a = c.args in (
-      failed_next (table_in a.table.now) a.n a.rep.now a.want.now a.bare.now c.requires.table_words.few (place a.from.c a.from.d) c.loop-pair.after.c c.loop-pair.after.d
+      failed_next (table_in a.table.now.words) a.table.now.count a.rep.now a.want.now a.bare.now c.args.table.now.formed.few (place a.from.c a.from.d) c.loop-pair.after.c c.loop-pair.after.d
           c.loop-pair.invariant.0 c.in_ok-pair.pair c.in_ok-pair.ensures c.in_default.ensures,
       omega (arith, c.in_ok-pair.ensures.2, c.loop-pair.invariant.1),
-      omega (arith, c.in_ok-pair.ensures.1, c.requires.table_words.few),
+      omega (arith, c.in_ok-pair.ensures.1, c.args.table.now.formed.few),
     )

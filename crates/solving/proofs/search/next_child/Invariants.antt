@@ -7,7 +7,7 @@ use Rattle.solving.proofs.search.next_child.Given as goal
 
 abbrev pub invariant-loop-pair : goal.invariant-loop-pair
 invariant-loop-pair l =
-    Failed (table_in l.table) l.n l.rep l.want l.bare (place l.fn.from.c l.fn.from.d) (place l.after.c l.after.d) × (place l.fn.from.c l.fn.from.d ≤ place l.after.c l.after.d) × (l.after.d ≤ 128)
+    Failed (table_in l.table.words) l.table.count l.rep l.want l.bare (place l.fn.from.c l.fn.from.d) (place l.after.c l.after.d) × (place l.fn.from.c l.fn.from.d ≤ place l.after.c l.after.d) × (l.after.d ≤ 128)
 
 abbrev pub decreases-loop-pair : goal.decreases-loop-pair
 decreases-loop-pair l = 16385 - place l.after.c l.after.d
