@@ -19,21 +19,26 @@ use Rattle.theory.specs.Cells.{class_at}
 use Rattle.knowledge.specs.declared.heard.Knowledge.{Knowledge}
 use Rattle.knowledge.specs.Heard.{FileKnown}
 use Rattle.knowledge.proofs.Grow.{marked?}
-use Rattle.building.specs.declared.Marked.{Marked}
-use Rattle.building.specs.declared.Marked.TheVariants.{Refused, Marks}
+use Rattle.std.specs.Prelude.{Result, Ok, Err}
+use Rattle.refusals.specs.declared.Refusal.{Refusal}
+use Rattle.refusals.specs.Refused.{Refused}
+use Rattle.casefile.specs.Case.{case_of}
+use Rattle.casefile.proofs.CaseFile.{case_refused, case_told}
 use Rattle.building.specs.Lay.{Lays}
 use Rattle.building.specs.Promise.{MarksPromise}
 use Rattle.building.proofs.LayLaws.{lays_length, lays_front, lays_laid}
 
 -- ---- the replies
 
-pub promise_refused : (file before : List ℕ) (n p : ℕ) → read_file file ≡ Reading.refused n p → MarksPromise file before (Refused n p) before
-promise_refused file before n p e = record {
-  refused = λ k q i. (cc, refl);
-  variable = λ f at i v. clash (cc);
-  short = λ f i v h. clash (cc);
-  marks = λ f i v h. clash (cc);
-}
+pub promise_refused : (file before : List ℕ) (e : Refusal) → case_of (read_file file) ≡ Err e → MarksPromise file before (Err e) before
+promise_refused file before e v =
+    let z = case_refused file (case_of (read_file file)) refl e v in
+    record {
+      refused = λ n p i. (case_told file e v n p i, refl);
+      variable = λ f at i w. clash (cc);
+      short = λ f i w h. clash (cc);
+      marks = λ f i w h. clash (cc);
+    }
 
 module _ (file before : List ℕ) (f : File) (e : read_file file ≡ Reading.accepted f) where
   same : {g : File} → read_file file ≡ Reading.accepted g → f ≡ g
@@ -63,7 +68,7 @@ module _ (file before : List ℕ) (f : File) (e : read_file file ≡ Reading.acc
   ]
 
   pub promise_marks : {r : Knowledge} {after : List ℕ} → first_variable f.cells ≡ none → length f.cells ≤ length before → FileKnown f r →
-      Lays (length f.cells) r.rep r.built before after → MarksPromise file before (Marks (length f.cells)) after
+      Lays (length f.cells) r.rep r.built before after → MarksPromise file before (Ok (length f.cells)) after
   promise_marks {r} {after} v l k w = record {
     refused = λ n p i. clash (cc);
     variable = λ g b i u. (let z = same i in clash (cc));
@@ -72,7 +77,7 @@ module _ (file before : List ℕ) (f : File) (e : read_file file ≡ Reading.acc
   }
     where
       Reply : File → Type 0
-      Reply g = (Marks (length f.cells) ≡ Marks (length g.cells)) × (list : List ℕ) × MarkList g list × (after ≡ laid list before)
+      Reply g = (◌≡◌ {A = Result ℕ Refusal} (Ok (length f.cells)) (Ok (length g.cells))) × (list : List ℕ) × MarkList g list × (after ≡ laid list before)
 
 -- ---- the promise settles them
 
@@ -86,7 +91,7 @@ mark_one (unset p) (unset q) = refl
 pub mark_list_one : (f : File) (l m : List ℕ) → MarkList f l → MarkList f m → l ≡ m
 mark_list_one f l m (v, n, a) (w, k, b) = ext_get_or 0 l m (n ∙ sym k) (λ i h. mark_one (a i (omega arith)) (b i (omega arith)))
 
-module _ {file before : List ℕ} {r r' : Marked} {after after' : List ℕ} (p : MarksPromise file before r after) (q : MarksPromise file before r' after') where
+module _ {file before : List ℕ} {r r' : Result ℕ Refusal} {after after' : List ℕ} (p : MarksPromise file before r after) (q : MarksPromise file before r' after') where
   settled_file : (f : File) → read_file file ≡ Reading.accepted f → (o : Option ℕ) → first_variable f.cells ≡ o → (r ≡ r') × (after ≡ after')
   settled_file f e (some at) v = both (p.variable f at e v) (q.variable f at e v)
   settled_file f e none v = elim (dec_lt (length before) (length f.cells)) [
@@ -103,15 +108,15 @@ module _ {file before : List ℕ} {r r' : Marked} {after after' : List ℕ} (p :
   promise_settled = settled_as (read_file file) refl
 
 -- Marks that are shown of an accepted file are those that are written, wherever they find room.
-pub promise_listed : {file before : List ℕ} {r : Marked} {after : List ℕ} → MarksPromise file before r after → (f : File) (list : List ℕ) →
-    read_file file ≡ Reading.accepted f → MarkList f list → length list ≤ length before → (r ≡ Marks (length list)) × (after ≡ laid list before)
+pub promise_listed : {file before : List ℕ} {r : Result ℕ Refusal} {after : List ℕ} → MarksPromise file before r after → (f : File) (list : List ℕ) →
+    read_file file ≡ Reading.accepted f → MarkList f list → length list ≤ length before → (r ≡ Ok (length list)) × (after ≡ laid list before)
 promise_listed {before = before} p f list e (v, n, a) room =
     let (i, l, m, b) = p.marks f e v (omega arith) in
-    (i ∙ ap Marks (sym n), b ∙ ap (λ x. laid x before) (mark_list_one f l list m (v, n, a)))
+    (i ∙ ap Ok (sym n), b ∙ ap (λ x. laid x before) (mark_list_one f l list m (v, n, a)))
 
 -- ---- a mark that is written
 
-pub promise_mark : {file before : List ℕ} {n : ℕ} {after : List ℕ} → MarksPromise file before (Marks n) after → (f : File) → read_file file ≡ Reading.accepted f →
+pub promise_mark : {file before : List ℕ} {n : ℕ} {after : List ℕ} → MarksPromise file before (Ok n) after → (f : File) → read_file file ≡ Reading.accepted f →
     (c : ℕ) → c < n → Mark (Built (HeardOf f) (messages_of f c)) (get_or after c 0)
 promise_mark {file} {before} {n} {after} p f e c h = go (first_variable f.cells) refl
   where
