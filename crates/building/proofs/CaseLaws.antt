@@ -1,7 +1,7 @@
 -- The replies of build marks, by the words of an accepted file.
 use mathlib.Core.Path.{◌≡◌, sym, subst}
 use mathlib.Core.List.{List}
-use Prim.Native.Nat.{ℕ, ◌≤◌, ◌<◌}
+use Prim.Native.Nat.{ℕ, ◌≤◌}
 use native.Mathlib.Omega.{arith}
 use lib.ListN.{length}
 use Rattle.model.specs.Case.{table_of, run_of}
@@ -13,16 +13,11 @@ use Rattle.knowledge.specs.declared.heard.Knowledge.{Knowledge}
 use Rattle.knowledge.specs.Heard.{HeardOpened, FileKnown}
 use Rattle.knowledge.proofs.HeardLaws.{file_known}
 use Rattle.std.specs.Prelude.{None, Ok}
-use Rattle.refusals.specs.Refused.{Refused}
 use Rattle.building.specs.Lay.{Lays}
 use Rattle.building.specs.Promise.{MarksPromise}
-use Rattle.building.proofs.PromiseLaws.{promise_short, promise_marks}
+use Rattle.building.proofs.PromiseLaws.{promise_marks}
 
 module _ {file : List ℕ} {r : Case} (w : CaseFile file r) (free : r.variable ≡ None) (before : List ℕ) where
-  pub answer_short : length before < r.table.count → MarksPromise file before (Refused 9 r.table.count) before
-  answer_short h =
-      subst (λ n. MarksPromise file before (Refused 9 n) before) (sym (case_count w)) (promise_short file before w.f w.read (case_free w free) (omega (arith, case_count w)))
-
   module _ (bytes : Bytes file) {k : Knowledge} (h : HeardOpened r.table.count (table_in r.table.words) (run_in r.run.count r.run.words) k) where
     -- What is opened from the words is known of the file.
     case_known : FileKnown w.f k

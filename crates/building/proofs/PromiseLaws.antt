@@ -19,46 +19,17 @@ use Rattle.theory.specs.Cells.{class_at}
 use Rattle.knowledge.specs.declared.heard.Knowledge.{Knowledge}
 use Rattle.knowledge.specs.Heard.{FileKnown}
 use Rattle.knowledge.proofs.Grow.{marked?}
-use Rattle.std.specs.Prelude.{Result, Ok, Err}
+use Rattle.std.specs.Prelude.{Result, Ok}
 use Rattle.refusals.specs.declared.Refusal.{Refusal}
-use Rattle.refusals.specs.Refused.{Refused}
-use Rattle.casefile.specs.Case.{case_of}
-use Rattle.casefile.proofs.CaseFile.{case_refused, case_told}
 use Rattle.building.specs.Lay.{Lays}
 use Rattle.building.specs.Promise.{MarksPromise}
 use Rattle.building.proofs.LayLaws.{lays_length, lays_front, lays_laid}
 
 -- ---- the replies
 
-pub promise_refused : (file before : List ℕ) (e : Refusal) → case_of (read_file file) ≡ Err e → MarksPromise file before (Err e) before
-promise_refused file before e v =
-    let z = case_refused file (case_of (read_file file)) refl e v in
-    record {
-      refused = λ n p i. (case_told file e v n p i, refl);
-      variable = λ f at i w. clash (cc);
-      short = λ f i w h. clash (cc);
-      marks = λ f i w h. clash (cc);
-    }
-
 module _ (file before : List ℕ) (f : File) (e : read_file file ≡ Reading.accepted f) where
   same : {g : File} → read_file file ≡ Reading.accepted g → f ≡ g
   same i = cc
-
-  pub promise_variable : (at : ℕ) → first_variable f.cells ≡ some at → MarksPromise file before (Refused 8 at) before
-  promise_variable at v = record {
-    refused = λ n p i. clash (cc);
-    variable = λ g b i w. (let z = same i in cc, refl);
-    short = λ g i w h. (let z = same i in clash (cc));
-    marks = λ g i w h. (let z = same i in clash (cc));
-  }
-
-  pub promise_short : first_variable f.cells ≡ none → length before < length f.cells → MarksPromise file before (Refused 9 (length f.cells)) before
-  promise_short v l = record {
-    refused = λ n p i. clash (cc);
-    variable = λ g b i w. (let z = same i in clash (cc));
-    short = λ g i w h. (ap (λ x. Refused 9 (length x.cells)) (same i), refl);
-    marks = λ g i w h. absurd (omega (arith, ap (λ x. length x.cells) (same i)));
-  }
 
   -- The mark of a class is that of its cells.
   mark_of : {r : Knowledge} → FileKnown f r → (c x : ℕ) → x ≡ get_or r.built (class_at r.rep c) 0 → Mark (Built (HeardOf f) (messages_of f c)) x
