@@ -24,7 +24,6 @@ use Rattle.classes.specs.Settle.{Unifies}
 use Rattle.classes.specs.Twins.{Start}
 use Rattle.std.specs.Prelude.{Option, Some, None, Result, Ok}
 use Rattle.refusals.specs.declared.Refusal.{Refusal}
-use Rattle.refusals.specs.Refused.{Refused}
 use Rattle.equating.specs.Entries.{list_of}
 use Rattle.equating.specs.Promise.{Asked, Answered, EquatePromise}
 use Rattle.equating.proofs.ClassLaws.{classes_never, classes_list}
@@ -47,16 +46,6 @@ module _ (file : List ℕ) (a b : ℕ) (before : List ℕ) where
     module _ (inside : Outside → ⊥) where
       not_outside : {A : Type 0} {g : File} → read_file file ≡ accepted g → (length g.cells ≤ a) ⊎ (length g.cells ≤ b) → A
       not_outside e o = absurd (inside (subst (λ (n : ℕ). (n ≤ a) ⊎ (n ≤ b)) (sym (one_length e)) o))
-
-      pub promise_short : length before < length f.cells → EquatePromise file a b before (Refused 9 (length f.cells)) before
-      promise_short s = record {
-        refused = λ n p e. clash (cc);
-        outside = λ g e o. not_outside e o;
-        short = λ g q _. (ap (Refused 9) (one_length q.read), refl);
-        replied = λ g q. absurd (omega (arith, one_length q.asked.read, q.room));
-        no = λ g q. absurd (omega (arith, one_length q.asked.read, q.room));
-        listed = λ g q. absurd (omega (arith, one_length q.asked.read, q.room));
-      }
 
       module _ (room : length f.cells ≤ length before) where
         pub promise_no : NeverEqual f a b → EquatePromise file a b before (Ok None) before
@@ -94,11 +83,6 @@ module _ {file : List ℕ} {r : Case} (w : CaseFile file r) (a b : ℕ) (before 
 
     file_inside : Off (length w.f.cells) → ⊥
     file_inside o = inside (subst Off (sym (case_count w)) o)
-
-    pub reply_short : length before < r.table.count → EquatePromise file a b before (Refused 9 r.table.count) before
-    reply_short =
-        subst (λ (n : ℕ). length before < n → EquatePromise file a b before (Refused 9 n) before) (sym (case_count w))
-        (promise_short file a b before w.f w.read file_inside)
 
     module _ (room : r.table.count ≤ length before) (bytes : Bytes file) (first : List ℕ) (start : Start r.table.count (table_in r.table.words) first)
         (s : Settled) (u : Unifies r.table.count (table_in r.table.words) first a b s) where
