@@ -10,14 +10,17 @@ start-rep-requires c = case_words (case_accepted c.args.file.now _ c.in_ok-case.
 
 pub unify-joined-requires : goal.unify-joined-requires
 unify-joined-requires c =
-    record { table_words = case_words (case_accepted c.args.file.now _ c.in_ok-case.ensures c.in_ok-case.case refl) (λ i. omega (arith, c.type_inv.file i)); kept = c.start-rep.ensures.solved.kept; a_lt_n = case_inside (case_accepted c.args.file.now _ c.in_ok-case.ensures c.in_ok-case.case refl) c.args.a c.args.b c.args.out.now (c.outside.ensures.no c.if-outside.false) }
+    let w = case_accepted c.args.file.now _ c.in_ok-case.ensures c.in_ok-case.case refl in
+    record { table_words = case_words w (λ i. omega (arith, c.type_inv.file i)); kept = c.start-rep.ensures.solved.kept; a_lt_n = case_inside w c.args.a c.args.b c.args.out.now (c.outside.ensures.no c.if-outside.false) }
 
 pub returns-then-not-joined : goal.returns-then-not-joined
 returns-then-not-joined c =
-    reply_no (case_accepted c.args.file.now _ c.in_ok-case.ensures c.in_ok-case.case refl) c.args.a c.args.b c.args.out.now (c.outside.ensures.no c.if-outside.false) c.if-out-n.false (λ i. omega (arith, c.type_inv.file i))
+    let w = case_accepted c.args.file.now _ c.in_ok-case.ensures c.in_ok-case.case refl in
+    reply_no w c.args.a c.args.b c.args.out.now (c.outside.ensures.no c.if-outside.false) c.if-out-n.false (λ i. omega (arith, c.type_inv.file i))
     c.start-rep.result c.start-rep.ensures c.unify-joined.result c.unify-joined.ensures c.if-not-joined.true
 
 pub returns : goal.returns
 returns c =
-    reply_listed (case_accepted c.args.file.now _ c.in_ok-case.ensures c.in_ok-case.case refl) c.args.a c.args.b c.args.out.now (c.outside.ensures.no c.if-outside.false) c.if-out-n.false (λ i. omega (arith, c.type_inv.file i))
+    let w = case_accepted c.args.file.now _ c.in_ok-case.ensures c.in_ok-case.case refl in
+    reply_listed w c.args.a c.args.b c.args.out.now (c.outside.ensures.no c.if-outside.false) c.if-out-n.false (λ i. omega (arith, c.type_inv.file i))
     c.start-rep.result c.start-rep.ensures c.unify-joined.result c.unify-joined.ensures c.if-not-joined.false _ c.write_list.ensures
