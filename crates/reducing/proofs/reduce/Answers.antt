@@ -1,15 +1,9 @@
--- `reducing::reduce` keeps its promise: each way out cites the law of its reply.
+-- `reducing::reduce` keeps its promise: each reply to a file without variables cites its law.
 use native.Mathlib.Omega.{arith}
-use Rattle.std.proofs.lemmas.Result.{err_from_is_err_and}
 use Rattle.model.proofs.Accepted.{Bytes}
 use Rattle.casefile.proofs.CaseFile.{case_accepted, case_words, case_events}
-use Rattle.reducing.proofs.CaseLaws.{case_solid, answer_refused, answer_short, answer_reduced}
+use Rattle.reducing.proofs.CaseLaws.{case_solid, answer_short, answer_reduced}
 use Rattle.reducing.proofs.reduce.Goals as goal
-
-pub returns-in_err-case : goal.returns-in_err-case
-returns-in_err-case c =
-    let p = err_from_is_err_and c.from_residual.result c.from_residual.ensures.1 in
-    rw (p.1, p.2) (answer_refused c.args.file.now c.args.out.now c.read_case.result c.read_case.ensures _ c.in_err-case.was)
 
 pub plan_run-plan-requires : goal.plan_run-plan-requires
 plan_run-plan-requires c =
