@@ -1,4 +1,4 @@
--- The reduced file of a file is one, each way to reply keeps the promise, and the promise settles the reply.
+-- The reduced file of a file is one, the replies to a file without variables keep the promise, and the promise settles the reply.
 use mathlib.Core.Path.{◌≡◌, refl, sym, ◌∙◌, ap, subst}
 use mathlib.Core.Logic.{◌↔◌}
 use mathlib.Core.List.{List}
@@ -7,6 +7,9 @@ use Prim.Native.Nat.{ℕ, ◌≤◌, ◌<◌}
 use native.Mathlib.Omega.{arith}
 use native.Mathlib.Decide.{dec_lt}
 use lib.ListN.{length}
+use Rattle.std.specs.Prelude.{Result, Ok}
+use Rattle.refusals.specs.declared.Refusal.{Refusal}
+use Rattle.refusals.specs.Refused.{Refused}
 use Rattle.model.specs.Message.{Message, Built}
 use Rattle.model.specs.Case.{File, table_of}
 use Rattle.model.specs.Format.{Reading, read_file, file_bytes, first_variable}
@@ -15,8 +18,6 @@ use Rattle.model.proofs.Settled.{both}
 use Rattle.model.proofs.Read.{clash}
 use Rattle.theory.proofs.Reduce.{reduces_one}
 use Rattle.theory.proofs.Reduced.{Reduction, reduced_one}
-use Rattle.reducing.specs.declared.Reduced.{Reduced}
-use Rattle.reducing.specs.declared.Reduced.TheVariants.{Refused, Reduced as Written}
 use Rattle.reducing.specs.Promise.{SameBuilt, ReducePromise}
 
 -- ---- the reduced file
@@ -42,62 +43,43 @@ reduced_only {f} {g} r (free, h, learnt, written, events, reduces) =
     let s : Reduction (HeardOf f) h learnt = record { events = events; reduces = reduces; few = (let w = r.reduction.few in omega arith) } in
     reduced_one (HeardOf f) (HeardOf f) g h r.learnt learnt r.reduction s (both_ways f) ∙ written
 
--- ---- the replies
+-- ---- the replies to a file without variables
 
-pub promise_refused : (file before : List ℕ) (n p : ℕ) → read_file file ≡ Reading.refused n p → ReducePromise file before (Refused n p) before
-promise_refused file before n p e = record {
-  refused = λ k q i. (cc, refl);
-  variable = λ f at i v. clash (cc);
-  exists = λ f i v. clash (cc);
-  short = λ f b i t h. clash (cc);
-  reduced = λ f b i t h. clash (cc);
-}
-
-module _ (file before : List ℕ) (f : File) (e : read_file file ≡ Reading.accepted f) where
-  same : {g : File} → read_file file ≡ Reading.accepted g → f ≡ g
+module _ (file before : List ℕ) (f : File) (e : read_file file ≡ Reading.accepted f) (g : File) (r : ReducedBy f g) where
+  same : {h : File} → read_file file ≡ Reading.accepted h → f ≡ h
   same i = cc
 
-  pub promise_variable : (at : ℕ) → first_variable f.cells ≡ some at → ReducePromise file before (Refused 8 at) before
-  promise_variable at v = record {
+  abbrev Exists : File → Type 0
+  Exists f = (bytes : List ℕ) × (t : ReducedTo f bytes) × (length t.1.cells ≤ 128) × SameBuilt t.1 f
+
+  exists_file : {h : File} → read_file file ≡ Reading.accepted h → Exists h
+  unfolding reduced_to
+  exists_file i = subst Exists (same i) (file_bytes g, reduced_to r, r.reduction.few, r.same)
+
+  only : {h : File} {bytes : List ℕ} → read_file file ≡ Reading.accepted h → ReducedTo h bytes → file_bytes g ≡ bytes
+  only {bytes = bytes} i t = reduced_only r (subst (λ h. ReducedTo h bytes) (sym (same i)) t)
+
+  pub promise_short : length before < length (file_bytes g) → ReducePromise file before (Refused 9 (length (file_bytes g))) before
+  promise_short l = record {
     refused = λ n p i. clash (cc);
-    variable = λ g b i w. (let z = same i in cc, refl);
-    exists = λ g i w. (let z = same i in clash (cc));
-    short = λ g b i t h. (let z = same i in let w = t.0 in clash (cc));
-    reduced = λ g b i t h. (let z = same i in let w = t.0 in clash (cc));
+    variable = λ h b i w. (let z = same i in let v = r.free in clash (cc));
+    exists = λ h i w. exists_file i;
+    short = λ h b i t s. (ap (λ x. Refused 9 (length x)) (only i t), refl);
+    reduced = λ h b i t s. absurd (omega (arith, ap length (only i t)));
   }
 
-  module _ (g : File) (r : ReducedBy f g) where
-    abbrev Exists : File → Type 0
-    Exists f = (bytes : List ℕ) × (t : ReducedTo f bytes) × (length t.1.cells ≤ 128) × SameBuilt t.1 f
-
-    exists_file : {h : File} → read_file file ≡ Reading.accepted h → Exists h
-    unfolding reduced_to
-    exists_file i = subst Exists (same i) (file_bytes g, reduced_to r, r.reduction.few, r.same)
-
-    only : {h : File} {bytes : List ℕ} → read_file file ≡ Reading.accepted h → ReducedTo h bytes → file_bytes g ≡ bytes
-    only {bytes = bytes} i t = reduced_only r (subst (λ h. ReducedTo h bytes) (sym (same i)) t)
-
-    pub promise_short : length before < length (file_bytes g) → ReducePromise file before (Refused 9 (length (file_bytes g))) before
-    promise_short l = record {
-      refused = λ n p i. clash (cc);
-      variable = λ h b i w. (let z = same i in let v = r.free in clash (cc));
-      exists = λ h i w. exists_file i;
-      short = λ h b i t s. (ap (λ x. Refused 9 (length x)) (only i t), refl);
-      reduced = λ h b i t s. absurd (omega (arith, ap length (only i t)));
-    }
-
-    pub promise_reduced : length (file_bytes g) ≤ length before → ReducePromise file before (Written (length (file_bytes g))) (laid (file_bytes g) before)
-    promise_reduced l = record {
-      refused = λ n p i. clash (cc);
-      variable = λ h b i w. (let z = same i in let v = r.free in clash (cc));
-      exists = λ h i w. exists_file i;
-      short = λ h b i t s. absurd (omega (arith, ap length (only i t)));
-      reduced = λ h b i t s. (ap (λ x. Written (length x)) (only i t), ap (λ x. laid x before) (only i t));
-    }
+  pub promise_reduced : length (file_bytes g) ≤ length before → ReducePromise file before (Ok (length (file_bytes g))) (laid (file_bytes g) before)
+  promise_reduced l = record {
+    refused = λ n p i. clash (cc);
+    variable = λ h b i w. (let z = same i in let v = r.free in clash (cc));
+    exists = λ h i w. exists_file i;
+    short = λ h b i t s. absurd (omega (arith, ap length (only i t)));
+    reduced = λ h b i t s. (ap (λ x. Ok (length x)) (only i t), ap (λ x. laid x before) (only i t));
+  }
 
 -- ---- the promise settles them
 
-module _ {file before : List ℕ} {r r' : Reduced} {after after' : List ℕ} (p : ReducePromise file before r after) (q : ReducePromise file before r' after') where
+module _ {file before : List ℕ} {r r' : Result ℕ Refusal} {after after' : List ℕ} (p : ReducePromise file before r after) (q : ReducePromise file before r' after') where
   settled_bytes : (f : File) (bytes : List ℕ) → read_file file ≡ Reading.accepted f → ReducedTo f bytes → (r ≡ r') × (after ≡ after')
   settled_bytes f bytes e t = elim (dec_lt (length before) (length bytes)) [
     | yes h ↦ both (p.short f bytes e t h) (q.short f bytes e t h)
