@@ -1,27 +1,13 @@
--- The laying of marks, cell by cell, and the list of marks that lies there.
-use mathlib.Core.Path.{◌≡◌, refl, sym, ◌∙◌, ap}
+-- The list of marks that lies at the front of a buffer.
+use mathlib.Core.Path.{◌≡◌, sym, ◌∙◌, ap}
 use mathlib.Core.List.{List, ◌++◌}
-use Prim.Native.Nat.{ℕ, ◌+◌, ◌≤◌, ◌<◌}
+use Prim.Native.Nat.{ℕ, ◌≤◌, ◌<◌}
 use native.Mathlib.Omega.{arith}
-use lib.ListN.{length, get_or, take, drop, set, length-set, take-append-drop}
-use lib.Seq.{get_or-set_same, get_or-set_other, drop-set-lt, drop-drop, length-take-le, get_or-take}
-use borrow.Author.Count.{below_more}
+use lib.ListN.{length, get_or, take, drop, take-append-drop}
+use lib.Seq.{length-take-le, get_or-take}
 use Rattle.theory.specs.Cells.{class_at}
 use Rattle.model.specs.Replies.{laid}
 use Rattle.building.specs.Lay.{Lays}
-
-pub lays_none : (rep marks before : List ℕ) → Lays 0 rep marks before before
-lays_none rep marks before = record { long = refl; front = λ c h. absurd (omega arith); rest = refl }
-
--- The mark of one cell more.
-pub lays_more : {c : ℕ} {rep marks before after : List ℕ} (x : ℕ) → Lays c rep marks before after → c < length after → x ≡ get_or marks (class_at rep c) 0 →
-    Lays (c + 1) rep marks before (set after c x)
-lays_more {c} {rep} {marks} {before} {after} x l h e = record {
-  long = length-set after c x ∙ l.long;
-  front = below_more (λ i. get_or (set after c x) i 0 ≡ get_or marks (class_at rep i) 0) c
-      (λ i g. get_or-set_other after c i x 0 (λ q. omega arith) ∙ l.front i g) (get_or-set_same after c x 0 h ∙ e);
-  rest = drop-set-lt (c + 1) after c x (omega arith) ∙ (sym (drop-drop 1 c after) ∙ (ap (drop 1) l.rest ∙ drop-drop 1 c before));
-}
 
 -- The list that lies at the front.
 module _ {n : ℕ} {rep marks before after : List ℕ} (l : Lays n rep marks before after) (room : n ≤ length before) where

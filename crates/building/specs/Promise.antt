@@ -1,4 +1,4 @@
--- The promise of build marks (document 01, "Build marks" and "Refusal numbers and their order"). Assumes nothing.
+-- The promise of build marks: the refusals in their order, and the marks. Assumes nothing.
 -- MarksPromise: the reply and the buffer after it, for every file and every buffer before it.
 use Rattle.std.specs.Prelude.{◌≡◌, List, ℕ, ◌≤◌, ◌<◌, length}
 use Rattle.std.proofs.Math.Option.{some, none}

@@ -5,16 +5,17 @@ use Prim.Native.Nat.{ℕ, ◌+◌, ◌-◌, ◌≤◌}
 use native.Mathlib.Omega.{arith}
 use lib.ListN.{length, take, drop, length-drop}
 use lib.Seq.{take_all}
+use Rattle.std.specs.Prelude.{Option as Optional, Result, Ok, Err}
 use Rattle.model.specs.Case.{Lower}
 use Rattle.model.specs.Stored.{table_in}
 use Rattle.model.specs.Format.{read_file}
 use Rattle.casefile.specs.declared.Words.{Words}
-use Rattle.casefile.specs.declared.Found.{Found}
 use Rattle.casefile.specs.declared.events.Verdict.TheVariants as verdict
-use Rattle.casefile.specs.declared.rest.EventsEnd.{EventsEnd}
+use Rattle.refusals.specs.declared.Refusal.{Refusal}
+use Rattle.refusals.specs.Numbers.{number_of}
 use Rattle.casefile.specs.Cells.{Cut, Begun}
 use Rattle.casefile.specs.Events.{read_as, EventsRead}
-use Rattle.casefile.specs.Case.{case_of, refusal, VariableFound}
+use Rattle.casefile.specs.Case.{case_of, refusal, as_found, VariableFound}
 use Rattle.casefile.proofs.VariableLaws.{variable_found}
 
 module _ (file : List ℕ) (at : ℕ) (t : Words) (cut : Cut file at t) where
@@ -37,16 +38,16 @@ module _ (file : List ℕ) (at : ℕ) (t : Words) (cut : Cut file at t) where
   pub table_few : t.count ≤ 128
   table_few = let k = count in let f = cut.few in omega arith
 
-  module _ (r : EventsEnd) (read : EventsRead part at t r) where
-    reply : read_as r.verdict r.run cut.list (read_file file)
+  module _ (r : Result Words Refusal) (read : EventsRead part at t r) where
+    reply : read_as r cut.list (read_file file)
     reply = read file cut.list (record { part = part_all; count = count; shown = cut.shown; begun = subst Begun (sym part_all) cut.begun; whole = cut.rest })
 
-    pub reply_refused : (number place : ℕ) → r.verdict ≡ verdict.Refused number place → refusal number place ≡ case_of (read_file file)
-    reply_refused number place e = sym (ap case_of (subst (λ v. read_as v r.run cut.list (read_file file)) e reply))
+  pub reply_refused : (e : Refusal) → EventsRead part at t (Err e) → refusal (number_of e.fault) e.place ≡ case_of (read_file file)
+  reply_refused e read = sym (ap case_of (reply (Err e) read))
 
-    pub reply_accepted : (v : Found) → r.verdict ≡ verdict.Accepted → VariableFound (table_in t.words) t.count v →
-        record { verdict = verdict.Accepted; table = t; run = r.run; variable = v } ≡ case_of (read_file file)
-    reply_accepted v e found =
-        let (events, run, reading) = subst (λ w. read_as w r.run cut.list (read_file file)) e reply in
-        let variable = variable_found cut.list (table_in t.words) t.count v cut.shown count found in
-        (λ i. record { verdict = verdict.Accepted; table = cut.table i; run = run i; variable = variable i }) ∙ sym (ap case_of reading)
+  pub reply_accepted : (run : Words) → EventsRead part at t (Ok run) → (v : Optional ℕ) → VariableFound (table_in t.words) t.count v →
+      record { verdict = verdict.Accepted; table = t; run = run; variable = as_found v } ≡ case_of (read_file file)
+  reply_accepted run read v found =
+      let (events, same, reading) = reply (Ok run) read in
+      let variable = variable_found cut.list (table_in t.words) t.count v cut.shown count found in
+      (λ i. record { verdict = verdict.Accepted; table = cut.table i; run = same i; variable = variable i }) ∙ sym (ap case_of reading)

@@ -5,6 +5,7 @@ use mathlib.Core.List.{List, [], ◌∷◌, Memᴰ}
 use Prim.Native.Nat.{ℕ, ◌≤◌, ◌<◌}
 use borrow.Author.Tests.{le-leb, lt-leb, leb-true, leb-false}
 use lib.Dec.{leb}
+use Rattle.std.specs.Prelude.{Result, Ok, Err}
 use Rattle.model.specs.Case as case
 use Rattle.model.specs.Case.{AT, VA, ONE, TWO}
 use Rattle.model.specs.Format.{Kind, is_cell, record_at, Record, any_of, numbers, late, too_many, outside, loose, check, Checked}
@@ -15,14 +16,13 @@ use Rattle.cells.specs.Cells.{as_cell, parts_of}
 use Rattle.cells.specs.declared.Cell.{Cell}
 use Rattle.cells.specs.declared.Parts.{Parts}
 use Rattle.cells.specs.declared.Parts.TheVariants as parts
-use Rattle.casefile.specs.declared.record.Said.{Said}
-use Rattle.casefile.specs.declared.record.Said.TheVariants as said
-use Rattle.casefile.specs.declared.table.CellStep.{CellStep}
-use Rattle.casefile.specs.declared.table.CellStep.TheVariants as step
-use Rattle.casefile.specs.Record.{said_as, Stands, Short}
-use Rattle.casefile.specs.Cells.{Before, Begun, Next, cell_step, cell_says}
+use Rattle.refusals.specs.declared.Fault.{Fault}
+use Rattle.refusals.specs.declared.Fault.TheVariants as fault
+use Rattle.refusals.specs.Numbers.{number_of}
+use Rattle.casefile.specs.Record.{Stands, Short}
+use Rattle.casefile.specs.Cells.{Before, Begun, Next, cell_step}
 use Rattle.casefile.proofs.RecordLaws.{stands_cell, stands_size, stands_fits}
-use Rattle.casefile.proofs.TestLaws.{test_short, test_full, test_outside, test_inside}
+use Rattle.casefile.proofs.TestLaws.{short_number, test_short, test_full, test_outside, test_inside}
 
 -- ---- the numbers of a cell's record are its parts
 
@@ -90,8 +90,8 @@ module _ {f : case.File} {n : ℕ} (b : Before f n) (k : Kind) (is : is_cell k �
   many : too_many f k ≡ leb 128 n
   many = sym (into _ is (ap (leb 128) (sym b.cells)))
 
-pub says_short : {rest : List ℕ} {n x : ℕ} → Short rest true → x ≡ cond (leb 128 n) 4 1 → (f : case.File) → Before f n → check rest f ≡ Checked.fault x
-says_short {rest} {n} w e f b = test_short rest f w.tag w.marked n (early b w.tag w.is) (many b w.tag w.is) w.short ∙ ap Checked.fault (sym e)
+pub says_short : {rest : List ℕ} {n : ℕ} {x : Fault} → Short rest true → x ≡ cond (leb 128 n) fault.TooMany fault.Cut → (f : case.File) → Before f n → check rest f ≡ Checked.fault (number_of x)
+says_short {rest} {n} w e f b = test_short rest f w.tag w.marked n (early b w.tag w.is) (many b w.tag w.is) w.short ∙ ap Checked.fault (short_number n e)
 
 -- A whole record of the cell c.
 module _ {rest : List ℕ} {n : ℕ} {c : case.Cell} (w : Stands rest (Record.cell c)) where
@@ -118,13 +118,15 @@ module _ {rest : List ℕ} {n : ℕ} {c : case.Cell} (w : Stands rest (Record.ce
           ∙ ap (λ r. cond (loose f r) (Checked.fault 6) (Checked.sound w.tag)) w.says;
     }
 
-pub says_cell : {rest : List ℕ} (n : ℕ) {s : Said} {c : Cell} {r : CellStep} → Bytes rest → Stands rest (said_as s) → s ≡ said.Cell c → r ≡ cell_step c n → cell_says rest n r
-says_cell {rest} n {s} {c} bytes w told e = subst (cell_says rest n) (sym e) (go (leb 128 n) (any_of (leb n) (numbers (Record.cell (as_cell c)))) refl refl)
-  where
-    w' : Stands rest (Record.cell (as_cell c))
-    w' = subst (λ s. Stands rest (said_as s)) told w
+-- What the step at a whole record says.
+abbrev pub step_says : List ℕ → ℕ → Result Cell Fault → Type 0
+step_says rest n (Ok c) = Next rest n (as_cell c)
+step_says rest n (Err x) = (f : case.File) → Before f n → check rest f ≡ Checked.fault (number_of x)
 
-    go : (x y : Bool) → leb 128 n ≡ x → any_of (leb n) (numbers (Record.cell (as_cell c))) ≡ y → cell_says rest n (cond x (step.Refused 4) (cond y (step.Refused 5) (step.Next c)))
-    go true y e i = says_full w' (leb-true 128 n e)
-    go false true e i = says_out w' (leb-false 128 n e) i
-    go false false e i = says_next w' (leb-false 128 n e) bytes i
+pub says_cell : {rest : List ℕ} (n : ℕ) (c : Cell) {r : Result Cell Fault} → Bytes rest → Stands rest (Record.cell (as_cell c)) → r ≡ cell_step c n → step_says rest n r
+says_cell {rest} n c bytes w e = subst (step_says rest n) (sym e) (go (leb 128 n) (any_of (leb n) (numbers (Record.cell (as_cell c)))) refl refl)
+  where
+    go : (x y : Bool) → leb 128 n ≡ x → any_of (leb n) (numbers (Record.cell (as_cell c))) ≡ y → step_says rest n (cond x (Err fault.TooMany) (cond y (Err fault.NoSuchCell) (Ok c)))
+    go true y e i = says_full w (leb-true 128 n e)
+    go false true e i = says_out w (leb-false 128 n e) i
+    go false false e i = says_next w (leb-false 128 n e) bytes i

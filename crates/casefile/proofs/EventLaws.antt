@@ -7,6 +7,7 @@ use native.Mathlib.Omega.{arith}
 use borrow.Author.Tests.{leb-true, leb-false}
 use lib.Dec.{leb}
 use lib.ListN.{length}
+use Rattle.std.specs.Prelude.{Result, Ok, Err}
 use Rattle.model.specs.Case as case
 use Rattle.model.specs.Stored.{aim}
 use Rattle.model.specs.Format.{Kind, is_cell, is_event, width, record_at, Record, any_of, numbers, late, too_many, outside, loose, check, Checked}
@@ -14,14 +15,18 @@ use Rattle.model.proofs.Pick.{into, no}
 use Rattle.model.proofs.Read.{clash}
 use Rattle.cells.specs.Cells.{as_event}
 use Rattle.cells.specs.declared.Event.{Event}
-use Rattle.casefile.specs.declared.record.Said.{Said}
-use Rattle.casefile.specs.declared.record.Said.TheVariants as said
-use Rattle.casefile.specs.declared.rest.EventStep.{EventStep}
-use Rattle.casefile.specs.declared.rest.EventStep.TheVariants as step
-use Rattle.casefile.specs.Record.{said_as, Marked, Stands, Short}
-use Rattle.casefile.specs.Events.{Among, Found, Ended, event_step, event_says}
-use Rattle.casefile.proofs.RecordLaws.{stands_cell, stands_event, stands_size}
-use Rattle.casefile.proofs.TestLaws.{test_late, test_full, test_short, test_outside, test_inside}
+use Rattle.refusals.specs.declared.Fault.{Fault}
+use Rattle.refusals.specs.declared.Fault.TheVariants as fault
+use Rattle.refusals.specs.Numbers.{number_of}
+use Rattle.cells.specs.declared.Cell.{Cell}
+use Rattle.casefile.specs.declared.record.Record.{Record as Rec}
+use Rattle.casefile.specs.declared.record.Record.TheVariants as rec
+use Rattle.casefile.specs.declared.record.Front.{Front}
+use Rattle.casefile.specs.declared.record.Front.TheVariants as front
+use Rattle.casefile.specs.Record.{Marked, Stands, Short, front_says}
+use Rattle.casefile.specs.Events.{Among, Found, Ended, event_step}
+use Rattle.casefile.proofs.RecordLaws.{fronted, stands_cell, stands_event, stands_size}
+use Rattle.casefile.proofs.TestLaws.{short_number, test_late, test_full, test_short, test_outside, test_inside}
 
 -- A cell record after an event is late; before the first event no cell record stands.
 late_true : (es : List case.Event) (k : Kind) → is_cell k ≡ true → (es ≡ [] → ⊥) → late es k ≡ true
@@ -69,17 +74,17 @@ module _ (rest : List ℕ) (count n : ℕ) where
       let i : k ≡ b.tag = cc (g.found, b.marked.found) in
       clash (cc (is, b.event, ap is_cell i))))
 
-  pub says_late : {c : case.Cell} → Stands rest (Record.cell c) → (f : case.File) → Among rest f count n → check rest f ≡ Checked.fault 3
-  says_late w = late_cell w.tag w.marked (stands_cell w)
+  pub whole_late : {x : Front} {r : Rec} {k : Cell} → front_says rest (Ok x) → x ≡ front.Whole r → r ≡ rec.Cell k → (f : case.File) → Among rest f count n → check rest f ≡ Checked.fault 3
+  whole_late {x} {r} {k} s e i = let w = fronted rest s e i in late_cell w.tag w.marked (stands_cell w)
 
-  pub short_late : Short rest true → (f : case.File) → Among rest f count n → check rest f ≡ Checked.fault 3
-  short_late w = late_cell w.tag w.marked w.is
+  pub short_late : {x : Front} → front_says rest (Ok x) → x ≡ front.ShortCell → (f : case.File) → Among rest f count n → check rest f ≡ Checked.fault 3
+  short_late s e = let w = rw e at s in late_cell w.tag w.marked w.is
 
-  pub says_short : {x : ℕ} → Short rest false → x ≡ cond (leb 128 n) 4 1 → (f : case.File) → Among rest f count n → check rest f ≡ Checked.fault x
+  pub says_short : {x : Fault} → Short rest false → x ≡ cond (leb 128 n) fault.TooMany fault.Cut → (f : case.File) → Among rest f count n → check rest f ≡ Checked.fault (number_of x)
   says_short w e f a =
       let s = w.short in
       let h = w.marked.whole in
-      test_short rest f w.tag w.marked n (early f w.tag w.is) (many f w.tag w.is n a.events (short_event w.tag w.is (omega arith))) w.short ∙ ap Checked.fault (sym e)
+      test_short rest f w.tag w.marked n (early f w.tag w.is) (many f w.tag w.is n a.events (short_event w.tag w.is (omega arith))) w.short ∙ ap Checked.fault (short_number n e)
 
   pub says_end : Stands rest Record.end → Ended rest count n
   unfolding any_of
@@ -116,13 +121,15 @@ module _ (rest : List ℕ) (count n : ℕ) where
             ∙ ap (λ r. cond (loose f r) (Checked.fault 6) (Checked.sound w.tag)) w.says;
       }
 
-pub says_event : {rest : List ℕ} (count n : ℕ) {s : Said} {e : Event} {r : EventStep} → Stands rest (said_as s) → s ≡ said.Event e → r ≡ event_step e count n → event_says rest count n r
-says_event {rest} count n {s} {e} w told i = subst (event_says rest count n) (sym i) (go (leb 128 n) (leb count (aim (as_event e))) refl refl)
-  where
-    w' : Stands rest (Record.event (as_event e))
-    w' = subst (λ s. Stands rest (said_as s)) told w
+-- What the step at a whole record says.
+abbrev pub step_says : List ℕ → ℕ → ℕ → Result Event Fault → Type 0
+step_says rest count n (Ok e) = Found rest count n (as_event e)
+step_says rest count n (Err x) = (f : case.File) → Among rest f count n → check rest f ≡ Checked.fault (number_of x)
 
-    go : (x y : Bool) → leb 128 n ≡ x → leb count (aim (as_event e)) ≡ y → event_says rest count n (cond x (step.Refused 4) (cond y (step.Refused 5) (step.Next e)))
-    go true y i j = says_many rest count n w' (leb-true 128 n i)
-    go false true i j = says_outside rest count n w' (leb-false 128 n i) j
-    go false false i j = says_found rest count n w' (leb-false 128 n i) j
+pub says_event : {rest : List ℕ} (count n : ℕ) (e : Event) {r : Result Event Fault} → Stands rest (Record.event (as_event e)) → r ≡ event_step e count n → step_says rest count n r
+says_event {rest} count n e w i = subst (step_says rest count n) (sym i) (go (leb 128 n) (leb count (aim (as_event e))) refl refl)
+  where
+    go : (x y : Bool) → leb 128 n ≡ x → leb count (aim (as_event e)) ≡ y → step_says rest count n (cond x (Err fault.TooMany) (cond y (Err fault.NoSuchCell) (Ok e)))
+    go true y i j = says_many rest count n w (leb-true 128 n i)
+    go false true i j = says_outside rest count n w (leb-false 128 n i) j
+    go false false i j = says_found rest count n w (leb-false 128 n i) j

@@ -5,11 +5,13 @@ use mathlib.Core.Bool.{Bool, true, false, cond}
 use mathlib.Core.List.Memᴰ
 use mathlib.Core.List.{List, [], ◌∷◌, ◌++◌, Memᴰ}
 use mathlib.Core.Option.{some}
-use Prim.Native.Nat.{ℕ, ◌+◌, ◌≤◌, ◌<◌}
+use Prim.Native.Nat.{ℕ, ◌+◌, ◌-◌, ◌≤◌, ◌<◌}
 use native.Mathlib.Omega.{arith}
+use borrow.Author.Tests.{lt-ltb, le-ltb}
 use lib.Dec.{ltb}
-use lib.ListN.{length, drop, replicate, get_elem?}
+use lib.ListN.{length, drop, replicate, get_elem?, length-drop}
 use lib.Seq.{drop-drop}
+use Rattle.std.specs.Prelude.{Ok}
 use Rattle.model.specs.Case as case
 use Rattle.model.specs.Case.{MK, LN, Part, Within, Lower, table_of}
 use Rattle.model.specs.Stored.{table_in, event_word}
@@ -21,11 +23,9 @@ use Rattle.model.proofs.Read.{clash}
 use Rattle.theory.specs.Cells.{On}
 use Rattle.theory.proofs.MarkRows.{on?, no_mark}
 use Rattle.casefile.specs.declared.Words.{Words}
-use Rattle.casefile.specs.declared.events.Verdict.{Verdict}
-use Rattle.casefile.specs.declared.events.Verdict.TheVariants as verdict
 use Rattle.casefile.specs.Case.{stored, no_words, with_word}
 use Rattle.casefile.specs.Cells.{Begun}
-use Rattle.casefile.specs.Events.{Among, Found, Ended, Loose, shown, marks_after, ended_as, read_as, Context}
+use Rattle.casefile.specs.Events.{Among, Found, Ended, Loose, shown, marks_after, read_as, Context}
 use Rattle.casefile.proofs.ReadLaws.{read_fault, read_event, read_end, word_more}
 use Rattle.casefile.proofs.WithinLaws.{within_part}
 
@@ -124,15 +124,18 @@ module _ (rest : List ℕ) (base : ℕ) (t : Words) (file : List ℕ) (cells : L
     events_refused n h = sym s.left ∙ read_fault file (base + at) f room_left n (checked h)
 
     -- At EN.
-    pub events_end : Ended (drop at rest) t.count e.count → (v : Verdict) → v ≡ ended_as (drop at rest) (base + at) → read_as v e cells (read_file file)
-    events_end d v i = subst (λ v. read_as v e cells (read_file file)) (sym i) (go (ltb 2 (length (drop at rest))) refl)
-      where
-        reply : read_file file ≡ ended (drop at rest) (base + at) f
-        reply = sym s.left ∙ (read_end file (base + at) f room_left d.tag (checked d.sound) (ap (λ r. record_at r d.tag) (sym here_rest) ∙ d.says) ∙ ap (λ r. ended r (base + at) f) (sym here_rest))
+    module _ (d : Ended (drop at rest) t.count e.count) where
+      reply : read_file file ≡ ended (drop at rest) (base + at) f
+      reply = sym s.left ∙ (read_end file (base + at) f room_left d.tag (checked d.sound) (ap (λ r. record_at r d.tag) (sym here_rest) ∙ d.says) ∙ ap (λ r. ended r (base + at) f) (sym here_rest))
 
-        go : (b : Bool) → ltb 2 (length (drop at rest)) ≡ b → read_as (cond b (verdict.Refused 7 (base + at + 2)) verdict.Accepted) e cells (read_file file)
-        go true j = reply ∙ ap (λ b. cond b (Reading.refused 7 (base + at + 2)) (Reading.accepted f)) j
-        go false j = (s.list, s.run, reply ∙ ap (λ b. cond b (Reading.refused 7 (base + at + 2)) (Reading.accepted f)) j)
+      follows : (b : Bool) → ltb 2 (length (drop at rest)) ≡ b → read_file file ≡ cond b (Reading.refused 7 (base + at + 2)) (Reading.accepted f)
+      follows b j = reply ∙ ap (λ b. cond b (Reading.refused 7 (base + at + 2)) (Reading.accepted f)) j
+
+      pub events_trailing : 2 < length rest - at → read_file file ≡ Reading.refused 7 (base + at + 2)
+      events_trailing h = follows true (lt-ltb _ _ (omega (arith, length-drop at rest)))
+
+      pub events_end : length rest - at ≤ 2 → read_as (Ok e) cells (read_file file)
+      events_end h = (s.list, s.run, follows false (le-ltb _ _ (omega (arith, length-drop at rest))))
 
     -- At an event.
     module _ (low : Lower (table_in t.words)) (v : case.Event) (d : Found (drop at rest) t.count e.count v) where

@@ -1,35 +1,32 @@
 -- Marks and records: the kind found first in the list of kinds, and what a record of each kind says.
 use mathlib.Core.Path.{◌≡◌, refl, sym, ◌∙◌, ap, ap₂, subst}
 use mathlib.Core.Bool.{Bool, true, false, cond}
-use mathlib.Core.List.{List, ◌∷◌}
+use mathlib.Core.List.{List, [], ◌∷◌}
 use mathlib.Core.Option.{Option, some, none}
 use Prim.Native.Nat.{ℕ, ◌+◌, ◌-◌, ◌≤◌, ◌<◌}
 use native.Mathlib.Omega.{arith}
 use native.Mathlib.Nat.{add-zero}
-use borrow.Author.Tests.{lt-ltb, le-ltb, eq-eqb, ne_eqb, ltb-true, ltb-false}
-use lib.Dec.{eqb, ltb}
+use borrow.Author.Tests.{lt-ltb, le-ltb, ltb-true, ltb-false}
+use lib.Dec.{ltb}
 use lib.ListN.{length, get_or, drop, length-drop}
 use lib.Seq.{get_or-drop}
-use Rattle.model.specs.Format.{Kind, mark, begins, kind_among, kinds, kind_of, is_cell, is_event, width, record_of, Record, cell_bytes}
+use Rattle.std.specs.Prelude.{Result, Ok, Err}
+use Rattle.model.specs.Case as case
+use Rattle.model.specs.Format.{Kind, kind_among, kinds, kind_of, is_cell, is_event, width, record_of, Record, cell_bytes, check, Checked}
 use Rattle.model.proofs.Accepted.{Bytes}
-use Rattle.model.proofs.Pick.{yes, into, no}
+use Rattle.model.proofs.Pick.{yes, no}
 use Rattle.model.proofs.Rows.{Fits}
+use Rattle.refusals.specs.declared.Fault.{Fault}
+use Rattle.refusals.specs.declared.Fault.TheVariants as fault
+use Rattle.refusals.specs.Numbers.{number_of}
 use Rattle.casefile.specs.declared.record.Kind.{Kind as Tag}
-use Rattle.casefile.specs.declared.record.Kind.TheVariants as tag
-use Rattle.casefile.specs.declared.record.Mark.{Mark}
-use Rattle.casefile.specs.declared.record.Mark.TheVariants as mark
+use Rattle.casefile.specs.declared.record.Record.{Record as Rec}
 use Rattle.casefile.specs.declared.record.Front.{Front}
-use Rattle.casefile.specs.Record.{kind_for, as_mark, mark_at, short_as, short_of, Marked, Stands, front_says}
+use Rattle.casefile.specs.declared.record.Front.TheVariants as front
+use Rattle.casefile.specs.Record.{kind_for, as_mark, mark_at, record_says, short_as, short_of, Marked, Stands, front_says}
+use Rattle.casefile.proofs.TestLaws.{test_mark, test_unknown}
 
 -- ---- marks
-
--- One kind more to look for.
-pub mark_more : (rest : List ℕ) (k : Kind) (ks : List Kind) {r o : Mark} → r ≡ cond (begins rest (mark k)) (as_mark (some k)) o → o ≡ as_mark (kind_among rest ks) → r ≡ as_mark (kind_among rest (k ∷ ks))
-mark_more rest k ks e i = e ∙ (ap (cond (begins rest (mark k)) (as_mark (some k))) i ∙ go (begins rest (mark k)))
-  where
-    go : (b : Bool) → cond b (as_mark (some k)) (as_mark (kind_among rest ks)) ≡ as_mark (cond b (some k) (kind_among rest ks))
-    go true = refl
-    go false = refl
 
 module _ (s : List ℕ) (at : ℕ) where
   -- The rest from `at` on, byte by byte.
@@ -45,67 +42,51 @@ module _ (s : List ℕ) (at : ℕ) where
   pub rest_bytes : Bytes s → Bytes (drop at s)
   rest_bytes b i = subst (λ x. x < 256) (sym (rest_at i)) (b (at + i))
 
-  pub begins_first : (m : List ℕ) → get_or s at 0 ≡ get_or m 0 0 → eqb (get_or s (at + 1) 0) (get_or m 1 0) ≡ begins (drop at s) m
-  begins_first m e = into false (eq-eqb (get_or (drop at s) 0 0) (get_or m 0 0) (rest_first ∙ e)) (ap (λ x. eqb x (get_or m 1 0)) (sym (rest_at 1)))
-
-  pub begins_other : (m : List ℕ) → (get_or s at 0 ≡ get_or m 0 0 → ⊥) → false ≡ begins (drop at s) m
-  begins_other m ne = no (eqb (get_or (drop at s) 1 0) (get_or m 1 0)) (ne_eqb (get_or (drop at s) 0 0) (get_or m 0 0) (λ e. ne (sym rest_first ∙ e))) refl
-
-  pub mark_cut : length s < at + 2 → mark.Cut ≡ mark_at (drop at s)
+  pub mark_cut : length s < at + 2 → Err fault.Cut ≡ mark_at (drop at s)
   unfolding mark_at
   mark_cut h = yes _ (lt-ltb (length (drop at s)) 2 (omega (arith, rest_length)))
 
-  pub mark_whole : at + 2 ≤ length s → {r : Mark} → r ≡ as_mark (kind_among (drop at s) kinds) → r ≡ mark_at (drop at s)
+  pub mark_whole : at + 2 ≤ length s → {r : Result Tag Fault} → r ≡ as_mark (kind_among (get_or s at 0 ∷ get_or s (at + 1) 0 ∷ []) kinds) → r ≡ mark_at (drop at s)
   unfolding mark_at kind_of
-  mark_whole h e = no _ (le-ltb (length (drop at s)) 2 (omega (arith, rest_length))) e
+  mark_whole h e = no _ (le-ltb (length (drop at s)) 2 (omega (arith, rest_length))) (e ∙ ap₂ (λ a b. as_mark (kind_among (a ∷ b ∷ []) kinds)) (sym rest_first) (sym (rest_at 1)))
 
 -- What a mark found tells of the rest of the file.
-data Means (rest : List ℕ) : Mark → Type 0 where
-  cut : length rest < 2 → Means rest mark.Cut
-  unknown : 2 ≤ length rest → kind_of rest ≡ none → Means rest mark.Unknown
-  known : (k : Tag) → Marked rest (kind_for k) → Means rest (mark.Known k)
+data Means (rest : List ℕ) : Result Tag Fault → Type 0 where
+  faulty : {x : Fault} → ((f : case.File) → check rest f ≡ Checked.fault (number_of x)) → Means rest (Err x)
+  known : {k : Tag} → Marked rest (kind_for k) → Means rest (Ok k)
 
 means : (rest : List ℕ) → Means rest (mark_at rest)
 unfolding mark_at
 means rest = short (ltb (length rest) 2) refl
   where
     kinds : (o : Option Kind) → 2 ≤ length rest → kind_of rest ≡ o → Means rest (as_mark o)
-    kinds none h e = unknown h e
-    kinds (some Kind.Atom) h e = known tag.Atom (record { found = e; whole = h })
-    kinds (some Kind.Variable) h e = known tag.Variable (record { found = e; whole = h })
-    kinds (some Kind.Pair) h e = known tag.Pair (record { found = e; whole = h })
-    kinds (some Kind.Seal) h e = known tag.Seal (record { found = e; whole = h })
-    kinds (some Kind.Apply) h e = known tag.Apply (record { found = e; whole = h })
-    kinds (some Kind.Make) h e = known tag.Make (record { found = e; whole = h })
-    kinds (some Kind.Learn) h e = known tag.Learn (record { found = e; whole = h })
-    kinds (some Kind.End) h e = known tag.End (record { found = e; whole = h })
+    kinds none h e = faulty (λ f. test_unknown rest f (h, e))
+    kinds (some Kind.Atom) h e = known (record { found = e; whole = h })
+    kinds (some Kind.Variable) h e = known (record { found = e; whole = h })
+    kinds (some Kind.Pair) h e = known (record { found = e; whole = h })
+    kinds (some Kind.Seal) h e = known (record { found = e; whole = h })
+    kinds (some Kind.Apply) h e = known (record { found = e; whole = h })
+    kinds (some Kind.Make) h e = known (record { found = e; whole = h })
+    kinds (some Kind.Learn) h e = known (record { found = e; whole = h })
+    kinds (some Kind.End) h e = known (record { found = e; whole = h })
 
-    short : (b : Bool) → ltb (length rest) 2 ≡ b → Means rest (cond b mark.Cut (as_mark (kind_of rest)))
-    short true e = cut (ltb-true _ _ e)
+    short : (b : Bool) → ltb (length rest) 2 ≡ b → Means rest (cond b (Err fault.Cut) (as_mark (kind_of rest)))
+    short true e = faulty (λ f. test_mark rest f (ltb-true _ _ e))
     short false e = kinds (kind_of rest) (ltb-false _ _ e) refl
 
 -- The mark that the reader found at the front, by what it is.
-module _ (rest : List ℕ) {m : Mark} (found : m ≡ mark_at rest) where
-  told : {m' : Mark} → m ≡ m' → Means rest m'
-  told e = subst (Means rest) (sym found ∙ e) (means rest)
-
-  pub front_known : {k : Tag} → m ≡ mark.Known k → Marked rest (kind_for k)
-  front_known {k} e = go (told e)
+module _ (rest : List ℕ) where
+  pub front_known : {k : Tag} → Ok k ≡ mark_at rest → Marked rest (kind_for k)
+  front_known {k} e = go (subst (Means rest) (sym e) (means rest))
     where
-      go : Means rest (mark.Known k) → Marked rest (kind_for k)
-      go (known k g) = g
+      go : Means rest (Ok k) → Marked rest (kind_for k)
+      go (known g) = g
 
-  pub front_unknown : m ≡ mark.Unknown → (2 ≤ length rest) × (kind_of rest ≡ none)
-  front_unknown e = go (told e)
+  pub front_fault : {x : Fault} → Err x ≡ mark_at rest → (f : case.File) → check rest f ≡ Checked.fault (number_of x)
+  front_fault {x} e = go (subst (Means rest) (sym e) (means rest))
     where
-      go : Means rest mark.Unknown → (2 ≤ length rest) × (kind_of rest ≡ none)
-      go (unknown h k) = (h, k)
-
-  pub front_cut : m ≡ mark.Cut → length rest < 2
-  front_cut e = go (told e)
-    where
-      go : Means rest mark.Cut → length rest < 2
-      go (cut h) = h
+      go : Means rest (Err x) → (f : case.File) → check rest f ≡ Checked.fault (number_of x)
+      go (faulty g) = g
 
 -- ---- the fields behind a mark
 
@@ -113,10 +94,10 @@ module _ (s : List ℕ) (at : ℕ) (k : Tag) (g : Marked (drop at s) (kind_for k
   pub mark_room : at + 2 ≤ length s
   mark_room = let w = g.whole in omega (arith, length-drop at s)
 
-  pub fields_short : {r : Front} → length s - (at + 2) < width (kind_for k) → r ≡ short_of k → front_says (drop at s) r
-  fields_short h e = subst (front_says (drop at s)) (sym e) (go (is_cell (kind_for k)) refl)
+  pub fields_short : {r : Front} → length s - (at + 2) < width (kind_for k) → r ≡ short_of k → front_says (drop at s) (Ok r)
+  fields_short h e = subst (λ r. front_says (drop at s) (Ok r)) (sym e) (go (is_cell (kind_for k)) refl)
     where
-      go : (b : Bool) → is_cell (kind_for k) ≡ b → front_says (drop at s) (short_as b)
+      go : (b : Bool) → is_cell (kind_for k) ≡ b → front_says (drop at s) (Ok (short_as b))
       go true i = record { tag = kind_for k; marked = g; is = i; short = (let r = mark_room in omega (arith, length-drop at s)) }
       go false i = record { tag = kind_for k; marked = g; is = i; short = (let r = mark_room in omega (arith, length-drop at s)) }
 
@@ -130,6 +111,10 @@ module _ (s : List ℕ) (at : ℕ) (k : Tag) (g : Marked (drop at s) (kind_for k
     where
       three : at + 3 ≡ at + 2 + 1
       three = omega arith
+
+-- The record that the reader found at the front.
+pub fronted : (rest : List ℕ) {x : Front} {r s : Rec} → front_says rest (Ok x) → x ≡ front.Whole r → r ≡ s → Stands rest (record_says s)
+fronted rest f e i = subst (λ x. front_says rest (Ok x)) (e ∙ ap front.Whole i) f
 
 -- ---- what a record of each kind says
 

@@ -10,7 +10,18 @@ use lib.ListN.{length}
 use Rattle.model.specs.Case as case
 use Rattle.model.specs.Format.{Kind, kind_of, width, record_at, late, too_many, outside, loose, check, check_kind, Checked}
 use Rattle.model.proofs.Pick.{yes, no}
+use Rattle.refusals.specs.declared.Fault.{Fault}
+use Rattle.refusals.specs.declared.Fault.TheVariants as fault
+use Rattle.refusals.specs.Numbers.{number_of}
 use Rattle.casefile.specs.Record.{Marked}
+
+-- The fault of a record that is short of its fields, by its number.
+pub short_number : (n : ℕ) {x : Fault} → x ≡ cond (leb 128 n) fault.TooMany fault.Cut → cond (leb 128 n) 4 1 ≡ number_of x
+short_number n e = by_count (leb 128 n) ∙ ap number_of (sym e)
+  where
+    by_count : (b : Bool) → cond b 4 1 ≡ number_of (cond b fault.TooMany fault.Cut)
+    by_count true = refl
+    by_count false = refl
 
 -- A fault of the mark itself is refused in any section.
 module _ (rest : List ℕ) (f : case.File) where

@@ -1,5 +1,5 @@
 -- What the reader replies: the reading of model/specs/Format, with cells and events as they are stored.
-use Rattle.std.specs.Prelude.{◌≡◌, List, ℕ, ◌+◌, ◌*◌, ◌<◌, length, set, replicate}
+use Rattle.std.specs.Prelude.{◌≡◌, List, ℕ, ◌+◌, ◌*◌, ◌<◌, length, set, replicate, Option as Optional, Some, None}
 use Rattle.std.proofs.Math.Option.{Option, some, none}
 use Rattle.model.specs.Case.{Table, VA}
 use Rattle.model.specs.Format.{Reading, first_variable}
@@ -37,7 +37,12 @@ case_of (Reading.refused number place) = refusal number place
 case_of (Reading.accepted f) =
     record { verdict = verdict.Accepted; table = stored word_of f.cells; run = stored event_word f.events; variable = found_at (first_variable f.cells) }
 
+-- The same of the reader's own search.
+abbrev pub as_found : Optional ℕ → Found
+as_found None = found.Nowhere
+as_found (Some at) = found.At at
+
 -- r is the offset of the first VA of a table of n cells: the records of the cells before it have four bytes each.
-abbrev pub VariableFound : Table → ℕ → Found → Type 0
-VariableFound T n (found.At at) = (i : ℕ) × (at ≡ 4 * i) × (i < n) × (T i ≡ VA) × ((j : ℕ) → j < i → T j ≡ VA → ⊥)
-VariableFound T n found.Nowhere = (j : ℕ) → j < n → T j ≡ VA → ⊥
+abbrev pub VariableFound : Table → ℕ → Optional ℕ → Type 0
+VariableFound T n (Some at) = (i : ℕ) × (at ≡ 4 * i) × (i < n) × (T i ≡ VA) × ((j : ℕ) → j < i → T j ≡ VA → ⊥)
+VariableFound T n None = (j : ℕ) → j < n → T j ≡ VA → ⊥

@@ -1,18 +1,18 @@
 -- What the reader of the cell records says, in terms of model/specs/Format.
-use Rattle.std.specs.Prelude.{◌≡◌, false, cond, List, [], ℕ, ◌+◌, ◌≤◌, ◌<◌, leb, length, drop}
+use Rattle.std.specs.Prelude.{◌≡◌, false, cond, List, [], ℕ, ◌+◌, ◌≤◌, ◌<◌, leb, length, drop, Option, Some, None, Result, Ok, Err}
 use Rattle.model.specs.Case as case
 use Rattle.model.specs.Stored.{first, second, word_of, table_in}
 use Rattle.model.specs.Format.{Kind, is_cell, width, record_at, Record, any_of, numbers, cell_bytes, check, Checked, Reading, read_from, read_file}
+use Rattle.refusals.specs.declared.Fault.{Fault}
+use Rattle.refusals.specs.declared.Fault.TheVariants.{TooMany, NoSuchCell}
+use Rattle.refusals.specs.declared.Refusal.{Refusal}
+use Rattle.refusals.specs.Numbers.{number_of}
 use Rattle.cells.specs.Cells.{as_cell}
 use Rattle.cells.specs.declared.Cell.{Cell}
 use Rattle.casefile.specs.declared.Words.{Words}
-use Rattle.casefile.specs.declared.table.CellStep.{CellStep}
-use Rattle.casefile.specs.declared.table.CellStep.TheVariants as step
-use Rattle.casefile.specs.declared.table.Stop.{Stop}
-use Rattle.casefile.specs.declared.table.Stop.TheVariants as stop
-use Rattle.casefile.specs.declared.table.CellsEnd.{CellsEnd}
+use Rattle.casefile.specs.declared.table.Cells.{Cells}
 use Rattle.casefile.specs.Record.{Marked}
-use Rattle.casefile.specs.Case.{stored, no_words}
+use Rattle.casefile.specs.Case.{stored}
 
 -- A file with n cells and no event.
 pub record Before (f : case.File) (n : ℕ) : Type 0 where
@@ -37,14 +37,14 @@ pub record Begun (rest : List ℕ) : Type 0 where
   pub event : is_cell tag ≡ false
 
 -- The step at a whole record of the cell c, after n cells.
-abbrev pub cell_step : Cell → ℕ → CellStep
-cell_step c n = cond (leb 128 n) (step.Refused 4) (cond (any_of (leb n) (numbers (Record.cell (as_cell c)))) (step.Refused 5) (step.Next c))
+abbrev pub cell_step : Cell → ℕ → Result Cell Fault
+cell_step c n = cond (leb 128 n) (Err TooMany) (cond (any_of (leb n) (numbers (Record.cell (as_cell c)))) (Err NoSuchCell) (Ok c))
 
--- What is found at the front of the rest of a file, after n cells.
-abbrev pub cell_says : List ℕ → ℕ → CellStep → Type 0
-cell_says rest n (step.Next c) = Next rest n (as_cell c)
-cell_says rest n step.Events = Begun rest
-cell_says rest n (step.Refused x) = (f : case.File) → Before f n → check rest f ≡ Checked.fault x
+-- What is found at the front of the rest of a file, after n cells: one more, the events' first record, or a fault.
+abbrev pub cell_says : List ℕ → ℕ → Result (Option Cell) Fault → Type 0
+cell_says rest n (Ok (Some c)) = Next rest n (as_cell c)
+cell_says rest n (Ok None) = Begun rest
+cell_says rest n (Err x) = (f : case.File) → Before f n → check rest f ≡ Checked.fault (number_of x)
 
 -- The cells of a file whose events begin at `at`.
 pub record Cut (file : List ℕ) (at : ℕ) (t : Words) : Type 0 where
@@ -57,11 +57,7 @@ pub record Cut (file : List ℕ) (at : ℕ) (t : Words) : Type 0 where
   pub begun : Begun (drop at file)
   pub rest : read_from 257 (drop at file) at (record { cells = list; events = [] }) ≡ read_file file
 
--- What the reader of the cell records gives back. A refusal comes with no cell.
-abbrev pub cells_read : List ℕ → Stop → ℕ → Words → Type 0
-cells_read file stop.Events at t = Cut file at t
-cells_read file (stop.Refused x) at t = (read_file file ≡ Reading.refused x at) × (t ≡ no_words)
-
--- The same of the reader's reply.
-abbrev pub CellsRead : List ℕ → CellsEnd → Type 0
-CellsRead file r = cells_read file r.stop r.at r.table
+-- What the reader of the cell records gives back.
+abbrev pub CellsRead : List ℕ → Result Cells Refusal → Type 0
+CellsRead file (Ok r) = Cut file r.at r.table
+CellsRead file (Err e) = read_file file ≡ Reading.refused (number_of e.fault) e.place

@@ -1,18 +1,17 @@
 -- What the reader of the event records says, in terms of model/specs/Format.
-use Rattle.std.specs.Prelude.{◌≡◌, ◌⊎◌, cond, List, [], ℕ, ◌+◌, ◌≤◌, ◌<◌, ltb, leb, length, drop}
+use Rattle.std.specs.Prelude.{◌≡◌, ◌⊎◌, cond, List, [], ℕ, ◌+◌, ◌≤◌, ◌<◌, leb, length, drop, Option, Some, None, Result, Ok, Err}
 use Rattle.model.specs.Case as case
 use Rattle.model.specs.Case.{VA, MK, LN, Part, Within}
 use Rattle.model.specs.Stored.{table_in, aim, event_word}
 use Rattle.model.specs.Format.{Kind, width, record_at, Record, loose, check, Checked, Reading, read_from, read_file}
 use Rattle.theory.specs.Cells.{On}
+use Rattle.refusals.specs.declared.Fault.{Fault}
+use Rattle.refusals.specs.declared.Fault.TheVariants.{TooMany, NoSuchCell}
+use Rattle.refusals.specs.declared.Refusal.{Refusal}
+use Rattle.refusals.specs.Numbers.{number_of}
 use Rattle.cells.specs.Cells.{as_event}
 use Rattle.cells.specs.declared.Event.{Event}
 use Rattle.casefile.specs.declared.Words.{Words}
-use Rattle.casefile.specs.declared.rest.EventStep.{EventStep}
-use Rattle.casefile.specs.declared.rest.EventStep.TheVariants as step
-use Rattle.casefile.specs.declared.events.Verdict.{Verdict}
-use Rattle.casefile.specs.declared.events.Verdict.TheVariants as verdict
-use Rattle.casefile.specs.declared.rest.EventsEnd.{EventsEnd}
 use Rattle.casefile.specs.Case.{stored}
 use Rattle.casefile.specs.Cells.{Begun}
 
@@ -40,14 +39,14 @@ pub record Ended (rest : List ℕ) (count n : ℕ) : Type 0 where
   pub sound : (f : case.File) → Among rest f count n → check rest f ≡ Checked.sound tag
 
 -- The step at a whole record of the event e, after n events over so many cells.
-abbrev pub event_step : Event → ℕ → ℕ → EventStep
-event_step e count n = cond (leb 128 n) (step.Refused 4) (cond (leb count (aim (as_event e))) (step.Refused 5) (step.Next e))
+abbrev pub event_step : Event → ℕ → ℕ → Result Event Fault
+event_step e count n = cond (leb 128 n) (Err TooMany) (cond (leb count (aim (as_event e))) (Err NoSuchCell) (Ok e))
 
--- What is found at the front of the rest of a file, after n events over so many cells.
-abbrev pub event_says : List ℕ → ℕ → ℕ → EventStep → Type 0
-event_says rest count n (step.Next e) = Found rest count n (as_event e)
-event_says rest count n step.End = Ended rest count n
-event_says rest count n (step.Refused x) = (f : case.File) → Among rest f count n → check rest f ≡ Checked.fault x
+-- What is found at the front of the rest of a file, after n events over so many cells: one more, the end, or a fault.
+abbrev pub event_says : List ℕ → ℕ → ℕ → Result (Option Event) Fault → Type 0
+event_says rest count n (Ok (Some e)) = Found rest count n (as_event e)
+event_says rest count n (Ok None) = Ended rest count n
+event_says rest count n (Err x) = (f : case.File) → Among rest f count n → check rest f ≡ Checked.fault (number_of x)
 
 -- The parts of a cell have numbers below 128; the cell of an event has one.
 abbrev pub PartsFit : case.Cell → Type 0
@@ -87,14 +86,10 @@ abbrev pub marks_after : case.Table → List ℕ → case.Event → List ℕ →
 marks_after T made (MK c) r = WithinMarked T made c r
 marks_after T made (LN c) r = r ≡ made
 
--- The reply at an EN at the front of the rest of a file, whose offset is `at`.
-abbrev pub ended_as : List ℕ → ℕ → Verdict
-ended_as rest at = cond (ltb 2 (length rest)) (verdict.Refused 7 (at + 2)) verdict.Accepted
-
--- The reply with its events is that of the reading.
-abbrev pub read_as : Verdict → Words → List case.Cell → Reading → Type 0
-read_as (verdict.Refused x at) run cells reading = reading ≡ Reading.refused x at
-read_as verdict.Accepted run cells reading =
+-- The reply, events or a refusal, is that of the reading.
+abbrev pub read_as : Result Words Refusal → List case.Cell → Reading → Type 0
+read_as (Err e) cells reading = reading ≡ Reading.refused (number_of e.fault) e.place
+read_as (Ok run) cells reading =
     (events : List case.Event) × (run ≡ stored event_word events) × (reading ≡ Reading.accepted (record { cells = cells; events = events }))
 
 -- A file whose cell records, with these cells, end at `base`, where the rest begins; the cells lie in t.
@@ -106,5 +101,5 @@ pub record Context (rest : List ℕ) (base : ℕ) (t : Words) (file : List ℕ) 
   pub whole : read_from 257 (drop base file) base (record { cells = cells; events = [] }) ≡ read_file file
 
 -- What the reader of the event records gives back, for every such file.
-abbrev pub EventsRead : List ℕ → ℕ → Words → EventsEnd → Type 0
-EventsRead rest base t r = (file : List ℕ) (cells : List case.Cell) → Context rest base t file cells → read_as r.verdict r.run cells (read_file file)
+abbrev pub EventsRead : List ℕ → ℕ → Words → Result Words Refusal → Type 0
+EventsRead rest base t r = (file : List ℕ) (cells : List case.Cell) → Context rest base t file cells → read_as r cells (read_file file)

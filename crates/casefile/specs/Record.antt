@@ -1,17 +1,17 @@
 -- Marks and records as the reader holds them: the kinds and records of model/specs/Format, and what can stand in their place.
-use Rattle.std.specs.Prelude.{◌≡◌, Bool, true, false, cond, List, ℕ, ◌+◌, ◌≤◌, ◌<◌, ltb, length}
+use Rattle.std.specs.Prelude.{◌≡◌, Bool, true, false, cond, List, ℕ, ◌+◌, ◌≤◌, ◌<◌, ltb, length, Result, Ok, Err}
 use Rattle.std.proofs.Math.Option.{Option, some, none}
-use Rattle.model.specs.Case.{AT, VA, PR, SE, AP, MK, LN}
-use Rattle.model.specs.Format.{Kind, kind_of, is_cell, width, record_at, Record}
+use Rattle.model.specs.Case as case
+use Rattle.model.specs.Format.{Kind, kind_of, is_cell, width, record_at, Record, check, Checked}
+use Rattle.refusals.specs.declared.Fault.{Fault}
+use Rattle.refusals.specs.declared.Fault.TheVariants as fault
+use Rattle.refusals.specs.declared.Fault.TheVariants.{UnknownMark}
+use Rattle.refusals.specs.Numbers.{number_of}
 use Rattle.cells.specs.Cells.{as_cell, as_event}
 use Rattle.casefile.specs.declared.record.Kind.{Kind as Tag}
 use Rattle.casefile.specs.declared.record.Kind.TheVariants as tag
-use Rattle.casefile.specs.declared.record.Mark.{Mark}
-use Rattle.casefile.specs.declared.record.Mark.TheVariants as mark
 use Rattle.casefile.specs.declared.record.Record.{Record as Rec}
 use Rattle.casefile.specs.declared.record.Record.TheVariants as rec
-use Rattle.casefile.specs.declared.record.Said.{Said}
-use Rattle.casefile.specs.declared.record.Said.TheVariants as said
 use Rattle.casefile.specs.declared.record.Front.{Front}
 use Rattle.casefile.specs.declared.record.Front.TheVariants as front
 
@@ -26,41 +26,27 @@ kind_for tag.Make = Kind.Make
 kind_for tag.Learn = Kind.Learn
 kind_for tag.End = Kind.End
 
--- A known mark.
-abbrev pub known_as : Tag → Mark
-known_as k = mark.Known k
+-- The kind that a mark has; a fault where there is none.
+abbrev pub as_mark : Option Kind → Result Tag Fault
+as_mark none = Err UnknownMark
+as_mark (some Kind.Atom) = Ok tag.Atom
+as_mark (some Kind.Variable) = Ok tag.Variable
+as_mark (some Kind.Pair) = Ok tag.Pair
+as_mark (some Kind.Seal) = Ok tag.Seal
+as_mark (some Kind.Apply) = Ok tag.Apply
+as_mark (some Kind.Make) = Ok tag.Make
+as_mark (some Kind.Learn) = Ok tag.Learn
+as_mark (some Kind.End) = Ok tag.End
 
--- The mark of a kind; unknown where there is none.
-abbrev pub as_mark : Option Kind → Mark
-as_mark none = mark.Unknown
-as_mark (some Kind.Atom) = mark.Known tag.Atom
-as_mark (some Kind.Variable) = mark.Known tag.Variable
-as_mark (some Kind.Pair) = mark.Known tag.Pair
-as_mark (some Kind.Seal) = mark.Known tag.Seal
-as_mark (some Kind.Apply) = mark.Known tag.Apply
-as_mark (some Kind.Make) = mark.Known tag.Make
-as_mark (some Kind.Learn) = mark.Known tag.Learn
-as_mark (some Kind.End) = mark.Known tag.End
-
--- What stands at the front of the rest of a file.
-unfoldable pub mark_at : List ℕ → Mark
-mark_at rest = cond (ltb (length rest) 2) mark.Cut (as_mark (kind_of rest))
+-- The kind whose mark stands at the front of the rest of a file.
+unfoldable pub mark_at : List ℕ → Result Tag Fault
+mark_at rest = cond (ltb (length rest) 2) (Err fault.Cut) (as_mark (kind_of rest))
 
 -- What a record of the reader says.
 abbrev pub record_says : Rec → Record
-record_says (rec.Atom n) = Record.cell (AT n)
-record_says rec.Variable = Record.cell VA
-record_says (rec.Pair a b) = Record.cell (PR a b)
-record_says (rec.Seal a b) = Record.cell (SE a b)
-record_says (rec.Apply f a) = Record.cell (AP f a)
-record_says (rec.Make c) = Record.event (MK c)
-record_says (rec.Learn c) = Record.event (LN c)
+record_says (rec.Cell c) = Record.cell (as_cell c)
+record_says (rec.Event e) = Record.event (as_event e)
 record_says rec.End = Record.end
-
-abbrev pub said_as : Said → Record
-said_as (said.Cell c) = Record.cell (as_cell c)
-said_as (said.Event e) = Record.event (as_event e)
-said_as said.End = Record.end
 
 -- The record of a kind that is short of its fields.
 abbrev pub short_as : Bool → Front
@@ -88,10 +74,9 @@ pub record Short (rest : List ℕ) (cell : Bool) : Type 0 where
   pub is : is_cell tag ≡ cell
   pub short : length rest < 2 + width tag
 
--- What is found at the front of the rest of a file.
-abbrev pub front_says : List ℕ → Front → Type 0
-front_says rest (front.Whole r) = Stands rest (record_says r)
-front_says rest front.ShortCell = Short rest true
-front_says rest front.ShortEvent = Short rest false
-front_says rest front.Unknown = (2 ≤ length rest) × (kind_of rest ≡ none)
-front_says rest front.Cut = length rest < 2
+-- What is found at the front of the rest of a file. A fault of the mark is one in any section.
+abbrev pub front_says : List ℕ → Result Front Fault → Type 0
+front_says rest (Ok (front.Whole r)) = Stands rest (record_says r)
+front_says rest (Ok front.ShortCell) = Short rest true
+front_says rest (Ok front.ShortEvent) = Short rest false
+front_says rest (Err x) = (f : case.File) → check rest f ≡ Checked.fault (number_of x)

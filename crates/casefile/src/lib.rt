@@ -11,11 +11,12 @@ mod table;
 ghost use Rattle.std.specs.Prelude.{◌≡◌, ◌≤◌};
 ghost use Rattle.model.specs.Format.{read_file};
 ghost use Rattle.model.specs.Stored.{table_in};
-ghost use Rattle.casefile.specs.Case.{case_of, refusal, VariableFound};
+ghost use Rattle.refusals.specs.Numbers.{number_of};
+ghost use Rattle.casefile.specs.Case.{case_of, refusal, as_found, VariableFound};
 
 use cells::Table;
 use events::Verdict;
-use table::Stop;
+use refusals::Refusal;
 
 // One word for each of so many cells, or events, then zeros.
 #[derive(Clone, Copy)]
@@ -41,55 +42,52 @@ pub struct Case {
 }
 
 // The offset of the first variable of a table of n cells: the records of the cells before it have four bytes each.
-fn first_variable(table: &Table, n: usize) -> Found
+fn first_variable(table: &Table, n: usize) -> Option<usize>
     requires { n ≤ 128 }
     ensures { VariableFound (table_in table.now) n result }
 {
-    let mut i: usize = 0;
-    while i < n {
-        if cells::is_variable(table, i) {
-            return Found::At(4 * i);
-        }
-        i += 1;
+    match (0..n).find(|i| cells::is_variable(table, *i)) {
+        Some(i) => Some(4 * i),
+        None => None,
     }
-    Found::Nowhere
+}
+
+// Where a variable is found.
+fn as_found(variable: Option<usize>) -> Found
+    ensures { result ≡ as_found variable }
+{
+    match variable {
+        Some(at) => Found::At(at),
+        None => Found::Nowhere,
+    }
 }
 
 // The reply to a refused file.
-fn refused(number: u8, place: usize) -> Case
-    ensures { result ≡ refusal number place }
+fn refused(e: Refusal) -> Case
+    ensures { result ≡ refusal (number_of e.fault) e.place }
 {
     Case {
-        verdict: Verdict::Refused(number, place),
-        table: store::no_words(),
-        run: store::no_words(),
+        verdict: Verdict::Refused(e.fault.number(), e.place),
+        table: Words::new(),
+        run: Words::new(),
         variable: Found::Nowhere,
     }
 }
 
-// Reads a case file: any bytes are accepted or refused as document 01 says.
+// Reads a case file: any bytes are accepted, or refused by the first record at fault.
 pub fn read_case(file: &[u8]) -> Case
     ensures { result ≡ case_of (read_file file.now) }
 {
-    let read = table::read_cells(file);
-    let at = read.at;
-    let t = read.table;
-    let stop = read.stop;
-    match stop {
-        Stop::Refused(number) => refused(number, at),
-        Stop::Events => {
-            let end = rest::read_events(&file[at..], at, t);
-            let verdict = end.verdict;
-            let run = end.run;
-            match verdict {
-                Verdict::Refused(number, place) => refused(number, place),
-                Verdict::Accepted => Case {
-                    verdict: Verdict::Accepted,
-                    table: t,
-                    run: run,
-                    variable: first_variable(&t.words, t.count),
-                },
-            }
-        }
+    match table::read_cells(file) {
+        Err(e) => refused(e),
+        Ok(read) => match rest::read_events(&file[read.at..], read.at, &read.table) {
+            Err(e) => refused(e),
+            Ok(run) => Case {
+                verdict: Verdict::Accepted,
+                table: read.table,
+                run,
+                variable: as_found(first_variable(&read.table.words, read.table.count)),
+            },
+        },
     }
 }

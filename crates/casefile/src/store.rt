@@ -1,15 +1,26 @@
 // The words of cells or events, one after the other.
-ghost use Rattle.std.specs.Prelude.{◌≡◌};
-ghost use Rattle.casefile.specs.Case.{no_words};
+ghost use Rattle.std.specs.Prelude.{◌≡◌, ◌<◌};
+ghost use Rattle.casefile.specs.Case.{no_words, with_word};
 
 use super::Words;
 
-// No words.
-pub fn no_words() -> Words
-    ensures { result ≡ no_words }
-{
-    Words {
-        words: [0; 128],
-        count: 0,
+impl Words {
+    // No words.
+    pub fn new() -> Words
+        ensures { result ≡ no_words }
+    {
+        Words {
+            words: [0; 128],
+            count: 0,
+        }
+    }
+
+    // One word more.
+    pub fn push(&mut self, word: u32)
+        requires { self.old.count < 128 }
+        ensures { self.new ≡ with_word self.old word }
+    {
+        self.words[self.count] = word;
+        self.count += 1;
     }
 }

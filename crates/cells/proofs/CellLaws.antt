@@ -1,71 +1,31 @@
--- What the words of cells and events show, by their kinds; two answers to one question are equal.
-use mathlib.Core.Path.{◌≡◌, refl, sym, ◌∙◌, ap, subst}
-use mathlib.Core.Bool.{false}
-use Prim.Native.Nat.{ℕ, zero, suc, ◌+◌, ◌*◌}
-use native.Mathlib.Omega.{arith}
+-- Cells taken apart and held against each other, by their kinds.
+use mathlib.Core.Path.{◌≡◌, refl, sym, ap, subst}
+use mathlib.Core.Logic.{◌⊎◌, inl, inr}
+use Prim.Native.Nat.{ℕ, ◌+◌, ◌*◌}
 use Rattle.model.specs.Message.{Two}
 use Rattle.model.specs.Case as case
 use Rattle.model.specs.Case.{AT, VA, TWO, PR, SE, AP, MK}
-use Rattle.model.specs.Stored.{cell_at, word_of, event_at, event_word}
+use Rattle.model.specs.Stored.{word_of}
 use Rattle.model.proofs.Read.{clash}
 use Rattle.theory.specs.Cells.{apps, Makes}
 use Rattle.theory.specs.Classes.{Alike, Likes}
 use Rattle.theory.specs.Level as Level
 use Rattle.theory.specs.Level.{Kin}
-use Rattle.theory.specs.Decides.{Decides}
-use Rattle.theory.proofs.Decides.{decides_no}
-use Rattle.cells.specs.Cells.{as_cell, as_event, MadeOf, Opens, Meets, none, one, two, shut, open_pair, locked, unlike, same}
+use Rattle.cells.specs.Cells.{as_cell, MadeOf, Opens, Meets, none, one, two, shut, open_pair, locked, unlike, same}
 use Rattle.cells.specs.declared.Cell.{Cell}
 use Rattle.cells.specs.declared.Cell.TheVariants as cell
 use Rattle.cells.specs.declared.Opening.{Opening}
 use Rattle.cells.specs.declared.Meeting.{Meeting}
-use Rattle.cells.specs.declared.Event.{Event}
-use Rattle.cells.specs.declared.Event.TheVariants as event
 use Rattle.cells.specs.declared.Parts.TheVariants as parts
 use Rattle.cells.specs.declared.Opening.TheVariants as opening
 use Rattle.cells.specs.declared.Meeting.TheVariants as meeting
 
--- ---- words
-
--- A kind that there is not shows his own name, or asks for it.
-pub no_cell : (k a b : ℕ) → (k ≡ 0 → ⊥) → (k ≡ 1 → ⊥) → (k ≡ 2 → ⊥) → (k ≡ 3 → ⊥) → (k ≡ 4 → ⊥) → AT 0 ≡ cell_at k a b
-no_cell zero a b n0 n1 n2 n3 n4 = absurd (n0 refl)
-no_cell (suc zero) a b n0 n1 n2 n3 n4 = absurd (n1 refl)
-no_cell (suc (suc zero)) a b n0 n1 n2 n3 n4 = absurd (n2 refl)
-no_cell (suc (suc (suc zero))) a b n0 n1 n2 n3 n4 = absurd (n3 refl)
-no_cell (suc (suc (suc (suc zero)))) a b n0 n1 n2 n3 n4 = absurd (n4 refl)
-no_cell (suc (suc (suc (suc (suc k))))) a b n0 n1 n2 n3 n4 = refl
-
-pub no_event : (k c : ℕ) → (k ≡ 0 → ⊥) → (k ≡ 1 → ⊥) → MK 128 ≡ event_at k c
-no_event zero c n0 n1 = absurd (n0 refl)
-no_event (suc zero) c n0 n1 = absurd (n1 refl)
-no_event (suc (suc k)) c n0 n1 = refl
-
-module _ {e : Event} where
-  pub word_make : {c : ℕ} → e ≡ event.Make c → c ≡ event_word (as_event e)
-  word_make x = rw x (omega arith)
-
-  pub word_learn : {c : ℕ} → e ≡ event.Learn c → 65536 + c ≡ event_word (as_event e)
-  word_learn x = rw x refl
-
 -- ---- cells taken apart
 
+pub word_variable : {k : Cell} → k ≡ cell.Variable → 1 * 65536 + 0 * 256 + 0 ≡ word_of (as_cell k)
+word_variable e = rw e refl
+
 module _ {k : Cell} where
-  pub word_name : {n : ℕ} → k ≡ cell.Atom n → n ≡ word_of (as_cell k)
-  word_name {n} e = rw e (omega arith)
-
-  pub word_variable : k ≡ cell.Variable → 1 * 65536 + 0 * 256 + 0 ≡ word_of (as_cell k)
-  word_variable e = rw e refl
-
-  pub word_pair : {l r : ℕ} → k ≡ cell.Pair l r → 2 * 65536 + l * 256 + r ≡ word_of (as_cell k)
-  word_pair e = rw e refl
-
-  pub word_seal : {b c : ℕ} → k ≡ cell.Seal b c → 3 * 65536 + b * 256 + c ≡ word_of (as_cell k)
-  word_seal e = rw e refl
-
-  pub word_apply : {f a : ℕ} → k ≡ cell.Apply f a → 4 * 65536 + f * 256 + a ≡ word_of (as_cell k)
-  word_apply e = rw e refl
-
   pub made_name : {n : ℕ} → k ≡ cell.Atom n → MadeOf (as_cell k) parts.None
   made_name e = rw e (none λ a b m. elim m [ ])
 
@@ -96,6 +56,10 @@ module _ {k : Cell} where
   pub opens_apply : {f a : ℕ} → k ≡ cell.Apply f a → Opens (as_cell k) opening.Shut
   opens_apply e = rw e (shut (λ l r x. clash (cc)) (λ b c x. clash (cc)))
 
+pub ruleset composing = (made_name, made_variable, made_pair, made_seal, made_apply)
+
+pub ruleset opening_up = (opens_name, opens_variable, opens_pair, opens_seal, opens_apply)
+
 -- ---- cells held against each other
 
 -- Names that are alike are one, and so are functions.
@@ -105,68 +69,65 @@ alike_names Likes.atoms = refl
 alike_functions : {f a g x : ℕ} → Alike {A = Unit} (λ d. tt) (AP f a) (AP g x) → f ≡ g
 alike_functions (Likes.ones e) = refl
 
-module _ {n : ℕ} where
-  pub unlike_name : (d : Cell) → ((m : ℕ) → d ≡ cell.Atom m → ⊥) → Meets (AT n) (as_cell d) meeting.Unlike
-  unlike_name (cell.Atom m) h = absurd (h m refl)
-  unlike_name cell.Variable h = unlike λ x. elim x [ ]
-  unlike_name (cell.Pair x y) h = unlike λ x. elim x [ ]
-  unlike_name (cell.Seal x y) h = unlike λ x. elim x [ ]
-  unlike_name (cell.Apply g x) h = unlike λ x. elim x [ ]
+module _ (c d : Cell) where
+  pub same_name : {n m : ℕ} → c ≡ cell.Atom n → d ≡ cell.Atom m → n ≡ m → Meets (as_cell c) (as_cell d) meeting.Same
+  same_name e i z = rw (e, i) (same refl (ap AT (sym z)))
 
-  pub same_name : {d : Cell} {m : ℕ} → d ≡ cell.Atom m → n ≡ m → Meets (AT n) (as_cell d) meeting.Same
-  same_name e z = rw e (same refl (ap AT (sym z)))
+  pub other_name : {n m : ℕ} → c ≡ cell.Atom n → d ≡ cell.Atom m → (n ≡ m → ⊥) → Meets (as_cell c) (as_cell d) meeting.Unlike
+  other_name e i z = rw (e, i) (unlike λ x. z (alike_names x))
 
-  pub other_name : {d : Cell} {m : ℕ} → d ≡ cell.Atom m → (n ≡ m → ⊥) → Meets (AT n) (as_cell d) meeting.Unlike
-  other_name e z = rw e (unlike λ x. z (alike_names x))
+  pub two_pair : {a b x y : ℕ} → c ≡ cell.Pair a b → d ≡ cell.Pair x y → Meets (as_cell c) (as_cell d) (meeting.Two a x b y)
+  two_pair e i = rw (e, i) (Meets.twos refl refl)
 
-module _ {a b : ℕ} where
-  pub unlike_pair : (d : Cell) → ((x y : ℕ) → d ≡ cell.Pair x y → ⊥) → Meets (PR a b) (as_cell d) meeting.Unlike
-  unlike_pair (cell.Atom m) h = unlike λ x. elim x [ ]
-  unlike_pair cell.Variable h = unlike λ x. elim x [ ]
-  unlike_pair (cell.Pair x y) h = absurd (h x y refl)
-  unlike_pair (cell.Seal x y) h = unlike λ x. elim x [ ]
-  unlike_pair (cell.Apply g x) h = unlike λ x. elim x [ ]
+  pub two_seal : {a b x y : ℕ} → c ≡ cell.Seal a b → d ≡ cell.Seal x y → Meets (as_cell c) (as_cell d) (meeting.Two a x b y)
+  two_seal e i = rw (e, i) (Meets.twos refl refl)
 
-  pub two_pair : {d : Cell} {x y : ℕ} → d ≡ cell.Pair x y → Meets (PR a b) (as_cell d) (meeting.Two a x b y)
-  two_pair e = rw e (Meets.twos refl refl)
+  pub one_apply : {f a g x : ℕ} → c ≡ cell.Apply f a → d ≡ cell.Apply g x → f ≡ g → Meets (as_cell c) (as_cell d) (meeting.One a x)
+  one_apply {f} {a} {g} {x} e i z = rw (e, i) (Meets.ones refl (ap (λ (h : ℕ). AP h x) (sym z)))
 
-  pub unlike_seal : (d : Cell) → ((x y : ℕ) → d ≡ cell.Seal x y → ⊥) → Meets (SE a b) (as_cell d) meeting.Unlike
-  unlike_seal (cell.Atom m) h = unlike λ x. elim x [ ]
-  unlike_seal cell.Variable h = unlike λ x. elim x [ ]
-  unlike_seal (cell.Pair x y) h = unlike λ x. elim x [ ]
-  unlike_seal (cell.Seal x y) h = absurd (h x y refl)
-  unlike_seal (cell.Apply g x) h = unlike λ x. elim x [ ]
+  pub other_apply : {f a g x : ℕ} → c ≡ cell.Apply f a → d ≡ cell.Apply g x → (f ≡ g → ⊥) → Meets (as_cell c) (as_cell d) meeting.Unlike
+  other_apply e i z = rw (e, i) (unlike λ x. z (alike_functions x))
 
-  pub two_seal : {d : Cell} {x y : ℕ} → d ≡ cell.Seal x y → Meets (SE a b) (as_cell d) (meeting.Two a x b y)
-  two_seal e = rw e (Meets.twos refl refl)
+  pub unlike_variable : c ≡ cell.Variable → Meets (as_cell c) (as_cell d) meeting.Unlike
+  unlike_variable e = rw e (unlike λ x. elim x [ ])
 
-  pub unlike_apply : (d : Cell) → ((g x : ℕ) → d ≡ cell.Apply g x → ⊥) → Meets (AP a b) (as_cell d) meeting.Unlike
-  unlike_apply (cell.Atom m) h = unlike λ x. elim x [ ]
-  unlike_apply cell.Variable h = unlike λ x. elim x [ ]
-  unlike_apply (cell.Pair x y) h = unlike λ x. elim x [ ]
-  unlike_apply (cell.Seal x y) h = unlike λ x. elim x [ ]
-  unlike_apply (cell.Apply g x) h = absurd (h g x refl)
+pub unlike_name : (c d : Cell) {n : ℕ} → c ≡ cell.Atom n → ((m : ℕ) → d ≡ cell.Atom m → ⊥) → Meets (as_cell c) (as_cell d) meeting.Unlike
+unlike_name c (cell.Atom m) e h = absurd (h m refl)
+unlike_name c cell.Variable e h = rw e (unlike λ x. elim x [ ])
+unlike_name c (cell.Pair x y) e h = rw e (unlike λ x. elim x [ ])
+unlike_name c (cell.Seal x y) e h = rw e (unlike λ x. elim x [ ])
+unlike_name c (cell.Apply g x) e h = rw e (unlike λ x. elim x [ ])
 
-  pub one_apply : {d : Cell} {g x : ℕ} → d ≡ cell.Apply g x → a ≡ g → Meets (AP a b) (as_cell d) (meeting.One b x)
-  one_apply {d} {g} {x} e z = rw e (Meets.ones refl (ap (λ (i : ℕ). AP i x) (sym z)))
+pub unlike_pair : (c d : Cell) {a b : ℕ} → c ≡ cell.Pair a b → ((x y : ℕ) → d ≡ cell.Pair x y → ⊥) → Meets (as_cell c) (as_cell d) meeting.Unlike
+unlike_pair c (cell.Atom m) e h = rw e (unlike λ x. elim x [ ])
+unlike_pair c cell.Variable e h = rw e (unlike λ x. elim x [ ])
+unlike_pair c (cell.Pair x y) e h = absurd (h x y refl)
+unlike_pair c (cell.Seal x y) e h = rw e (unlike λ x. elim x [ ])
+unlike_pair c (cell.Apply g x) e h = rw e (unlike λ x. elim x [ ])
 
-  pub other_apply : {d : Cell} {g x : ℕ} → d ≡ cell.Apply g x → (a ≡ g → ⊥) → Meets (AP a b) (as_cell d) meeting.Unlike
-  other_apply e z = rw e (unlike λ x. z (alike_functions x))
+pub unlike_seal : (c d : Cell) {a b : ℕ} → c ≡ cell.Seal a b → ((x y : ℕ) → d ≡ cell.Seal x y → ⊥) → Meets (as_cell c) (as_cell d) meeting.Unlike
+unlike_seal c (cell.Atom m) e h = rw e (unlike λ x. elim x [ ])
+unlike_seal c cell.Variable e h = rw e (unlike λ x. elim x [ ])
+unlike_seal c (cell.Pair x y) e h = rw e (unlike λ x. elim x [ ])
+unlike_seal c (cell.Seal x y) e h = absurd (h x y refl)
+unlike_seal c (cell.Apply g x) e h = rw e (unlike λ x. elim x [ ])
 
-pub unlike_variable : {c : Cell} → (d : Cell) → c ≡ cell.Variable → Meets (as_cell c) (as_cell d) meeting.Unlike
-unlike_variable d e = rw e (unlike λ x. elim x [ ])
+pub unlike_apply : (c d : Cell) {f a : ℕ} → c ≡ cell.Apply f a → ((g x : ℕ) → d ≡ cell.Apply g x → ⊥) → Meets (as_cell c) (as_cell d) meeting.Unlike
+unlike_apply c (cell.Atom m) e h = rw e (unlike λ x. elim x [ ])
+unlike_apply c cell.Variable e h = rw e (unlike λ x. elim x [ ])
+unlike_apply c (cell.Pair x y) e h = rw e (unlike λ x. elim x [ ])
+unlike_apply c (cell.Seal x y) e h = rw e (unlike λ x. elim x [ ])
+unlike_apply c (cell.Apply g x) e h = absurd (h g x refl)
 
--- ---- variables
-
-pub no_variable : {T k : case.Cell} → k ≡ T → (k ≡ VA → ⊥) → Decides false (T ≡ VA)
-no_variable e n = decides_no λ v. n (e ∙ v)
+pub ruleset meetings = (same_name, other_name, two_pair, two_seal, one_apply, other_apply, unlike_variable, unlike_name, unlike_pair, unlike_seal, unlike_apply)
 
 -- ---- kin
 
 -- A cell that does not open by itself is no pair.
-pub not_open : {k : case.Cell} (o : Opening) → ((x y : ℕ) → o ≡ opening.Open x y → ⊥) → Opens k o → (l r : ℕ) → k ≡ PR l r → ⊥
+pub not_open : {k : case.Cell} (o : Opening) → (o ≡ opening.Shut) ⊎ ((b : ℕ) × (c : ℕ) × (o ≡ opening.Locked b c)) → Opens k o → (l r : ℕ) → k ≡ PR l r → ⊥
 not_open opening.Shut h (shut p s) l r e = p l r e
-not_open (opening.Open a b) h x l r e = absurd (h a b refl)
+not_open (opening.Open a b) (inl h) x l r e = clash (cc)
+not_open (opening.Open a b) (inr (_, _, h)) x l r e = clash (cc)
 not_open (opening.Locked b c) h (locked x) l r e = clash (cc)
 
 -- Kin are no pairs and no names, and are alike but for their parts.

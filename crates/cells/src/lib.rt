@@ -4,7 +4,7 @@
 
 ghost use Rattle.std.specs.Prelude.{◌≡◌, ◌+◌, ◌*◌, ◌≤◌, ◌<◌, get_or};
 ghost use Rattle.model.specs.Stored.{cell_at, cell_in, table_in, word_of, event_at, event_in, aim, event_word};
-ghost use Rattle.model.specs.Case.{AT, VA, PR, SE, AP};
+ghost use Rattle.model.specs.Case.{VA};
 ghost use Rattle.theory.specs.Level.{Kin};
 ghost use Rattle.theory.specs.Decides.{Decides};
 ghost use Rattle.cells.specs.Cells.{as_cell, as_event, parts_of, MadeOf, Opens, Meets};
@@ -16,7 +16,7 @@ pub type Table = [u32; 128];
 pub type Run = [u32; 128];
 
 // A cell: a name, a variable, a pair of cells, a seal with its body and its key, a function with its argument.
-#[derive(Clone, Copy)]
+#[derive(Clone, Copy, Debug, PartialEq, Eq)]
 pub enum Cell {
     Atom(u16),
     Variable,
@@ -26,14 +26,14 @@ pub enum Cell {
 }
 
 // An event: a cell that he must make, or one that he learns.
-#[derive(Clone, Copy)]
+#[derive(Clone, Copy, Debug, PartialEq, Eq)]
 pub enum Event {
     Make(u8),
     Learn(u8),
 }
 
 // The parts of a cell.
-#[derive(Clone, Copy)]
+#[derive(Clone, Copy, Debug, PartialEq, Eq)]
 pub enum Parts {
     None,
     One(u8),
@@ -41,7 +41,7 @@ pub enum Parts {
 }
 
 // What a seen cell gives: nothing, both its parts, or a body, once the key is built.
-#[derive(Clone, Copy)]
+#[derive(Clone, Copy, Debug, PartialEq, Eq)]
 pub enum Opening {
     Shut,
     Open(u8, u8),
@@ -49,7 +49,7 @@ pub enum Opening {
 }
 
 // Two cells held against each other: of another kind, name or function; one name; or of one kind and function, with their parts in pairs. A variable is like no cell.
-#[derive(Clone, Copy)]
+#[derive(Clone, Copy, Debug, PartialEq, Eq)]
 pub enum Meeting {
     Unlike,
     Same,
@@ -62,7 +62,7 @@ fn cell_of(kind: u32, a: u8, b: u8) -> Cell
     ensures { as_cell result ≡ cell_at kind a b }
 {
     match kind {
-        0 => Cell::Atom(a as u16 * 256 + b as u16),
+        0 => Cell::Atom(u16::from_be_bytes([a, b])),
         1 => Cell::Variable,
         2 => Cell::Pair(a, b),
         3 => Cell::Seal(a, b),
@@ -95,9 +95,10 @@ pub fn cell_at(table: &Table, c: usize) -> Cell
     ensures { as_cell result ≡ table_in table.now c }
 {
     if c < 128 {
-        return cell_within(table, c);
+        cell_within(table, c)
+    } else {
+        Cell::Atom(0)
     }
-    Cell::Atom(0)
 }
 
 // The word of a kind and two field bytes.
@@ -105,7 +106,7 @@ fn word(kind: u32, a: u8, b: u8) -> u32
     requires { kind ≤ 4 }
     ensures { result ≡ kind * 65536 + a * 256 + b }
 {
-    kind * 65536 + a as u32 * 256 + b as u32
+    kind * 65536 + u32::from(a) * 256 + u32::from(b)
 }
 
 // The word of a cell.
@@ -113,7 +114,7 @@ pub fn word_of(c: Cell) -> u32
     ensures { result ≡ word_of (as_cell c) }
 {
     match c {
-        Cell::Atom(n) => n as u32,
+        Cell::Atom(n) => u32::from(n),
         Cell::Variable => word(1, 0, 0),
         Cell::Pair(l, r) => word(2, l, r),
         Cell::Seal(b, k) => word(3, b, k),
@@ -126,98 +127,54 @@ pub fn parts_of(c: Cell) -> Parts
     ensures { result ≡ parts_of (as_cell c) }
 {
     match c {
-        Cell::Atom(_) => Parts::None,
-        Cell::Variable => Parts::None,
-        Cell::Pair(l, r) => Parts::Two(l, r),
-        Cell::Seal(b, k) => Parts::Two(b, k),
+        Cell::Atom(_) | Cell::Variable => Parts::None,
+        Cell::Pair(a, b) | Cell::Seal(a, b) => Parts::Two(a, b),
         Cell::Apply(_, a) => Parts::One(a),
     }
 }
 
-// What he composes a cell of, if he can.
+// What he composes a cell of, if he can: today its parts. Written beside `parts_of`, as not every application has to be composed.
+#[tactic(auto, using(crate::proofs::CellLaws::composing))]
 pub fn made_of(c: Cell) -> Parts
     ensures { MadeOf (as_cell c) result }
 {
     match c {
-        Cell::Atom(_) => Parts::None,
-        Cell::Variable => Parts::None,
-        Cell::Pair(l, r) => Parts::Two(l, r),
-        Cell::Seal(b, k) => Parts::Two(b, k),
+        Cell::Atom(_) | Cell::Variable => Parts::None,
+        Cell::Pair(a, b) | Cell::Seal(a, b) => Parts::Two(a, b),
         Cell::Apply(_, a) => Parts::One(a),
     }
 }
 
 // What a cell gives once it is seen.
+#[tactic(auto, using(crate::proofs::CellLaws::opening_up))]
 pub fn opens(c: Cell) -> Opening
     ensures { Opens (as_cell c) result }
 {
     match c {
-        Cell::Atom(_) => Opening::Shut,
-        Cell::Variable => Opening::Shut,
+        Cell::Atom(_) | Cell::Variable | Cell::Apply(_, _) => Opening::Shut,
         Cell::Pair(l, r) => Opening::Open(l, r),
         Cell::Seal(b, k) => Opening::Locked(b, k),
-        Cell::Apply(_, _) => Opening::Shut,
-    }
-}
-
-// The name n and a cell.
-fn meet_name(n: u16, d: Cell) -> Meeting
-    ensures { Meets (AT n) (as_cell d) result }
-{
-    let Cell::Atom(m) = d else {
-        return Meeting::Unlike;
-    };
-    if n == m {
-        Meeting::Same
-    } else {
-        Meeting::Unlike
-    }
-}
-
-// A pair and a cell.
-fn meet_pair(a: u8, b: u8, d: Cell) -> Meeting
-    ensures { Meets (PR a b) (as_cell d) result }
-{
-    let Cell::Pair(x, y) = d else {
-        return Meeting::Unlike;
-    };
-    Meeting::Two(a, x, b, y)
-}
-
-// A seal and a cell.
-fn meet_seal(a: u8, b: u8, d: Cell) -> Meeting
-    ensures { Meets (SE a b) (as_cell d) result }
-{
-    let Cell::Seal(x, y) = d else {
-        return Meeting::Unlike;
-    };
-    Meeting::Two(a, x, b, y)
-}
-
-// An application and a cell.
-fn meet_apply(f: u8, a: u8, d: Cell) -> Meeting
-    ensures { Meets (AP f a) (as_cell d) result }
-{
-    let Cell::Apply(g, x) = d else {
-        return Meeting::Unlike;
-    };
-    if f == g {
-        Meeting::One(a, x)
-    } else {
-        Meeting::Unlike
     }
 }
 
 // Two cells held against each other.
+#[tactic(auto, using(crate::proofs::CellLaws::meetings))]
 pub fn meet(c: Cell, d: Cell) -> Meeting
     ensures { Meets (as_cell c) (as_cell d) result }
 {
-    match c {
-        Cell::Atom(n) => meet_name(n, d),
-        Cell::Variable => Meeting::Unlike,
-        Cell::Pair(a, b) => meet_pair(a, b, d),
-        Cell::Seal(a, b) => meet_seal(a, b, d),
-        Cell::Apply(f, a) => meet_apply(f, a, d),
+    match (c, d) {
+        (Cell::Atom(n), Cell::Atom(m)) if n == m => Meeting::Same,
+        (Cell::Pair(a, b), Cell::Pair(x, y)) => Meeting::Two(a, x, b, y),
+        (Cell::Seal(a, b), Cell::Seal(x, y)) => Meeting::Two(a, x, b, y),
+        (Cell::Apply(f, a), Cell::Apply(g, x)) if f == g => Meeting::One(a, x),
+        (
+            Cell::Atom(_)
+            | Cell::Variable
+            | Cell::Pair(_, _)
+            | Cell::Seal(_, _)
+            | Cell::Apply(_, _),
+            _,
+        ) => Meeting::Unlike,
     }
 }
 
@@ -225,16 +182,12 @@ pub fn meet(c: Cell, d: Cell) -> Meeting
 fn kin(c: Cell, d: Cell) -> bool
     ensures { Decides result (Kin (as_cell c) (as_cell d)) }
 {
-    let o = opens(c);
-    if let Opening::Open(_, _) = o {
-        return false;
-    }
-    let met = meet(c, d);
-    match met {
-        Meeting::Unlike => false,
-        Meeting::Same => false,
-        Meeting::One(_, _) => true,
-        Meeting::Two(_, _, _, _) => true,
+    match opens(c) {
+        Opening::Open(_, _) => false,
+        Opening::Shut | Opening::Locked(_, _) => match meet(c, d) {
+            Meeting::Unlike | Meeting::Same => false,
+            Meeting::One(_, _) | Meeting::Two(_, _, _, _) => true,
+        },
     }
 }
 
@@ -249,14 +202,7 @@ pub fn kin_at(table: &Table, c: usize, d: usize) -> bool
 pub fn is_variable(table: &Table, c: usize) -> bool
     ensures { Decides result (table_in table.now c ≡ VA) }
 {
-    let cell = cell_at(table, c);
-    match cell {
-        Cell::Atom(_) => false,
-        Cell::Variable => true,
-        Cell::Pair(_, _) => false,
-        Cell::Seal(_, _) => false,
-        Cell::Apply(_, _) => false,
-    }
+    cell_at(table, c) == Cell::Variable
 }
 
 // The event of a kind with its cell.
@@ -284,8 +230,7 @@ pub fn aim_of(e: Event) -> u8
     ensures { result ≡ aim (as_event e) }
 {
     match e {
-        Event::Make(c) => c,
-        Event::Learn(c) => c,
+        Event::Make(c) | Event::Learn(c) => c,
     }
 }
 
@@ -294,7 +239,7 @@ pub fn event_word(e: Event) -> u32
     ensures { result ≡ event_word (as_event e) }
 {
     match e {
-        Event::Make(c) => c as u32,
-        Event::Learn(c) => 65536 + c as u32,
+        Event::Make(c) => u32::from(c),
+        Event::Learn(c) => 65536 + u32::from(c),
     }
 }

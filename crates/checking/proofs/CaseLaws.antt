@@ -1,9 +1,9 @@
 -- What the words of an accepted file say of a value list, and the replies by them.
 use mathlib.Core.Path.{◌≡◌, sym, ◌∙◌, ap, subst}
 use mathlib.Core.List.{List}
-use Prim.Native.Nat.{ℕ, ◌≤◌, ◌<◌}
-use native.Mathlib.Omega.{arith}
+use Prim.Native.Nat.{ℕ}
 use lib.ListN.{length}
+use Rattle.std.specs.Prelude.{Option, Some, None}
 use Rattle.model.specs.Case.{Table, Run, table_of}
 use Rattle.model.specs.Stored.{table_in, run_in}
 use Rattle.model.specs.Values.{Form, RightList}
@@ -15,42 +15,36 @@ use Rattle.casefile.proofs.CaseFile.{CaseFile, case_count, case_table, case_run,
 use Rattle.checking.specs.declared.Judged.TheVariants.{Refused, Wrong, Right}
 use Rattle.checking.specs.Form.{FirstBad, entry_cell}
 use Rattle.checking.specs.Promise.{CheckPromise}
-use Rattle.checking.proofs.PromiseLaws.{promise_size, promise_form, promise_right, promise_wrong}
+use Rattle.checking.proofs.PromiseLaws.{promise_form, promise_right, promise_wrong}
 
-module _ {file : List ℕ} {r : Case} (w : CaseFile file r) (list : List ℕ) where
-  pub judged_size : (length list ≡ r.table.count → ⊥) → CheckPromise file list (Refused 10 r.table.count)
-  judged_size other = subst (λ n. CheckPromise file list (Refused 10 n)) (sym (case_count w)) (promise_size file list w.f w.read (λ e. other (e ∙ sym (case_count w))))
+module _ {file : List ℕ} {r : Case} (w : CaseFile file r) (bytes : Bytes file) (list : List ℕ) (l : length list ≡ r.table.count) where
+  -- What the first entry of bad form is in the words, it is in the file.
+  first : (bad : Option ℕ) → FirstBad (table_in r.table.words) r.table.count list bad → FirstBad (table_of w.f.cells) (length w.f.cells) list bad
+  first bad b = subst (λ n. FirstBad (table_of w.f.cells) n list bad) (case_count w) (subst (λ T. FirstBad T r.table.count list bad) (case_table w bytes) b)
 
-  module _ (bytes : Bytes file) (l : length list ≡ r.table.count) (c : ℕ) (b : FirstBad (table_in r.table.words) r.table.count list c) where
-    -- The first entry of bad form in the words is the first in the file.
-    first : FirstBad (table_of w.f.cells) (length w.f.cells) list c
-    first = subst (λ n. FirstBad (table_of w.f.cells) n list c) (case_count w) (subst (λ T. FirstBad T r.table.count list c) (case_table w bytes) b)
+  pub judged_form : {c : ℕ} → FirstBad (table_in r.table.words) r.table.count list (Some c) → CheckPromise file list (Refused 10 c)
+  judged_form {c} b = let (h, good, bad) = first (Some c) b in promise_form file list w.f w.read (l ∙ case_count w) c h good bad
 
-    pub judged_form : c < r.table.count → CheckPromise file list (Refused 10 c)
-    judged_form h =
-        let h' : c < length w.f.cells = omega (arith, case_count w) in
-        promise_form file list w.f w.read (l ∙ case_count w) c h' first.good (first.bad h')
+  -- A list without an entry of bad form has the form, in the file and in its words.
+  module _ (b : FirstBad (table_in r.table.words) r.table.count list None) where
+    form : FormOf w.f list
+    form = record { size = l ∙ case_count w; entries = first None b }
 
-    -- A list without an entry of bad form has the form, in the file and in its words.
-    module _ (far : r.table.count ≤ c) where
-      form : FormOf w.f list
-      form = record { size = l ∙ case_count w; entries = λ d h. first.good d (omega (arith, case_count w)) }
+    pub judged_words : TableWords r.table.count r.table.words × (RunWords r.table.count r.run.words r.run.count
+        × Form (table_in r.table.words) r.table.count list)
+    judged_words = (case_words w bytes, (case_events w, record { size = l; entries = b }))
 
-      pub judged_words : TableWords r.table.count r.table.words × (RunWords r.table.count r.run.words r.run.count
-          × Form (table_in r.table.words) r.table.count list)
-      judged_words = (case_words w bytes, (case_events w, record { size = l; entries = λ d h. b.good d (omega arith) }))
+    abbrev RightWords : Type 0
+    RightWords = RightList (table_in r.table.words) (run_in r.run.count r.run.words) (entry_cell list)
 
-      abbrev RightWords : Type 0
-      RightWords = RightList (table_in r.table.words) (run_in r.run.count r.run.words) (entry_cell list)
+    -- The list is right in the words exactly if it is right in the file.
+    right_is : RightWords ≡ RightOf w.f list
+    right_is =
+        ap (λ (T : Table). RightList T (run_in r.run.count r.run.words) (entry_cell list)) (case_table w bytes)
+        ∙ ap (λ (ev : Run). RightList (table_of w.f.cells) ev (entry_cell list)) (case_run w)
 
-      -- The list is right in the words exactly if it is right in the file.
-      right_is : RightWords ≡ RightOf w.f list
-      right_is =
-          ap (λ (T : Table). RightList T (run_in r.run.count r.run.words) (entry_cell list)) (case_table w bytes)
-          ∙ ap (λ (ev : Run). RightList (table_of w.f.cells) ev (entry_cell list)) (case_run w)
+    pub judged_right : RightWords → CheckPromise file list Right
+    judged_right x = promise_right file list w.f w.read form (subst (λ (A : Type 0). A) right_is x)
 
-      pub judged_right : RightWords → CheckPromise file list Right
-      judged_right x = promise_right file list w.f w.read form (subst (λ (A : Type 0). A) right_is x)
-
-      pub judged_wrong : (RightWords → ⊥) → CheckPromise file list Wrong
-      judged_wrong none = promise_wrong file list w.f w.read form (λ x. none (subst (λ (A : Type 0). A) (sym right_is) x))
+    pub judged_wrong : (RightWords → ⊥) → CheckPromise file list Wrong
+    judged_wrong none = promise_wrong file list w.f w.read form (λ x. none (subst (λ (A : Type 0). A) (sym right_is) x))

@@ -17,9 +17,6 @@ use Rattle.checking.specs.Follow.{Binds, Gathers}
 -- ---- one entry
 
 module _ (n : ℕ) (T : Table) (rep : List ℕ) (c x : ℕ) where
-  pub binds_none : Kept n T rep → (T c ≡ VA → ⊥) → Binds n T rep c x rep
-  binds_none k s = record { kept = k; sat = λ m. (λ (t, _). t, λ t. (t, λ v. absurd (s v))) }
-
   pub binds_join : (out : List ℕ) → T c ≡ VA → Joined n T rep c x out → Binds n T rep c x out
   binds_join out v j = record { kept = j.kept; sat = λ m. (λ (s, h). (j.sat m).1 (s, h v), λ s. (let (t, h) = (j.sat m).0 s in (t, λ _. h))) }
 

@@ -1,6 +1,5 @@
 pub mod FormLaws
 pub mod FollowLaws
-pub mod MadeLaws
 pub mod RightLaws
 pub mod PromiseLaws
 pub mod CaseLaws

@@ -1,5 +1,5 @@
 -- When a reply keeps the promise: a law for each of the replies; and that the form of a list is decided.
-use mathlib.Core.Path.{◌≡◌, refl, sym, ◌∙◌, ap, subst}
+use mathlib.Core.Path.{◌≡◌, refl, sym, ap, subst}
 use mathlib.Core.List.{List}
 use mathlib.Core.Logic.{◌⊎◌, inl, inr}
 use Prim.Native.Nat.{ℕ, ◌<◌}
@@ -54,21 +54,6 @@ module _ (file list : List ℕ) (f : File) (e : read_file file ≡ Reading.accep
 
   same : (g : File) → read_file file ≡ Reading.accepted g → f ≡ g
   same g i = same_file (read_file file) f g e i
-
-  -- The list's length is not the cell count.
-  pub promise_size : (length list ≡ length f.cells → ⊥) → CheckPromise file list (Refused 10 (length f.cells))
-  promise_size ne = record {
-    refused = λ n p i. absurd (on n p i);
-    size = λ g i _. ap (λ (h : File). Refused 10 (length h.cells)) (same g i);
-    form = λ g i l. absurd (at g i l);
-    right = λ g i r. absurd (at g i r.0.size);
-    wrong = λ g i r. absurd (at g i r.size);
-    right_only = λ g i k. absurd (refused_right _ _ k);
-    wrong_only = λ g i k. absurd (refused_wrong _ _ k);
-  }
-    where
-      at : (g : File) → read_file file ≡ Reading.accepted g → length list ≡ length g.cells → ⊥
-      at g i l = ne (l ∙ sym (ap (λ (h : File). length h.cells) (same g i)))
 
   -- The entry c is the first of bad form.
   pub promise_form : length list ≡ length f.cells → (c : ℕ) → c < length f.cells → ((d : ℕ) → d < c → EntryOf f list d) → (EntryOf f list c → ⊥) → CheckPromise file list (Refused 10 c)

@@ -1,14 +1,13 @@
 -- The form of a value list, and his own name put for the entries 255.
 -- FirstBad: the first entry of bad form; entry_cell: the cell of an entry; Owned: the table in which his own name is put.
-use Rattle.std.specs.Prelude.{◌≡◌, List, ℕ, ◌≤◌, ◌<◌, get_or}
+use Rattle.std.specs.Prelude.{Option, Some, None, ◌≡◌, List, ℕ, ◌<◌, get_or}
 use Rattle.model.specs.Case.{AT, Table}
 use Rattle.model.specs.Values.{cell_of, Entry}
 
--- r is the first entry of bad form, or n.
-pub record FirstBad (T : Table) (n : ℕ) (list : List ℕ) (r : ℕ) : Type 0 where
-  pub low : r ≤ n
-  pub good : (d : ℕ) → d < r → Entry T n d (get_or list d 0)
-  pub bad : r < n → Entry T n r (get_or list r 0) → ⊥
+-- The first entry of bad form, if there is one.
+abbrev pub FirstBad : Table → ℕ → List ℕ → Option ℕ → Type 0
+FirstBad T n list (Some c) = (c < n) × ((d : ℕ) → d < c → Entry T n d (get_or list d 0)) × (Entry T n c (get_or list c 0) → ⊥)
+FirstBad T n list None = (d : ℕ) → d < n → Entry T n d (get_or list d 0)
 
 -- The cell that the entry of v names.
 abbrev pub entry_cell : List ℕ → ℕ → ℕ

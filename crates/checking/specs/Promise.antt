@@ -1,4 +1,4 @@
--- What the list check replies, sentence by sentence of document 01, "List check". Assumes nothing.
+-- What the list check replies, sentence by sentence. Assumes nothing.
 -- CheckPromise: the reply to a file and a list, for any bytes.
 use Rattle.std.specs.Prelude.{◌≡◌, List, ℕ, ◌<◌, length, get_or}
 use Rattle.model.specs.Case.{File, table_of}

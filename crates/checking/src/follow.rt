@@ -10,49 +10,45 @@ use cells::{Table, is_variable};
 use classes::Settled;
 
 // The cell c, if it is a variable, in one class with the cell x.
-fn bind_entry<'a>(table: &'a Table, n: usize, rep: [u8; 129], c: u8, x: u8) -> [u8; 129]
+fn bind_entry(table: &Table, n: usize, rep: [u8; 129], c: u8, x: u8) -> [u8; 129]
     requires table_words { TableWords n table.now }
     requires kept { Kept n (table_in table.now) rep }
     requires c_lt_n { c < n }
     requires x_lt_n { table_in table.now c ≡ VA → x < n }
     ensures { Binds n (table_in table.now) rep c x result }
 {
-    if !is_variable(table, c as usize) {
+    if !is_variable(table, usize::from(c)) {
         return rep;
     }
     classes::join(table, n, rep, c, x)
 }
 
 // The entries of the list as equalities of the classes.
-fn gather<'a>(table: &'a Table, n: usize, list: &[u8]) -> [u8; 129]
+fn gather(table: &Table, n: usize, list: &[u8]) -> [u8; 129]
     requires table_words { TableWords n table.now }
     requires list_len { length list.now ≡ n }
     requires inside { Inside n (table_in table.now) list.now }
     ensures { Gathers n (table_in table.now) list.now result }
 {
     let mut rep = classes::start(table, n);
-    let mut c: usize = 0;
-    while c < n {
+    for c in 0..n {
         let bound = bind_entry(table, n, rep, c as u8, list[c]);
         rep = bound;
-        c += 1;
     }
     rep
 }
 
 // The classes of the cells that the list puts together, with all that this asks for; not ok if following it comes round.
-pub fn follow<'a>(table: &'a Table, n: usize, list: &[u8]) -> Settled
+pub fn follow(table: &Table, n: usize, list: &[u8]) -> Settled
     requires table_words { TableWords n table.now }
     requires list_len { length list.now ≡ n }
     requires inside { Inside n (table_in table.now) list.now }
     ensures { Follows n (table_in table.now) list.now result }
 {
-    let gathered = gather(table, n, list);
-    let s = classes::settle(table, n, gathered);
-    if !s.ok {
-        return s;
+    let settled = classes::settle(table, n, gather(table, n, list));
+    if !settled.ok {
+        return settled;
     }
-    let out = s.rep;
-    let ok = classes::acyclic(table, n, out);
-    Settled { ok: ok, rep: out }
+    let ok = classes::acyclic(table, n, settled.rep);
+    Settled { ok, ..settled }
 }

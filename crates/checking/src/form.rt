@@ -11,32 +11,19 @@ use cells::{Cell, Table, is_variable, word_of};
 fn fits(table: &Table, n: usize, c: usize, x: u8) -> bool
     ensures { Decides result (Entry (table_in table.now) n c x) }
 {
-    let i = x as usize;
+    let i = usize::from(x);
     if !is_variable(table, c) {
         return i == c;
     }
-    if i == 255 {
-        return true;
-    }
-    if i < n {
-        return !is_variable(table, i);
-    }
-    false
+    i == 255 || i < n && !is_variable(table, i)
 }
 
-// The first entry of bad form, or n.
-pub fn first_bad(table: &Table, n: usize, list: &[u8]) -> usize
+// The cell of the first entry of bad form, if there is one.
+pub fn first_bad(table: &Table, n: usize, list: &[u8]) -> Option<usize>
     requires { length list.now ≡ n }
     ensures { FirstBad (table_in table.now) n list.now result }
 {
-    let mut c: usize = 0;
-    while c < n {
-        if !fits(table, n, c, list[c]) {
-            return c;
-        }
-        c += 1;
-    }
-    n
+    (0..n).find(|c| !fits(table, n, *c, list[*c]))
 }
 
 // The table with his own name for each cell whose entry is 255.
@@ -45,12 +32,10 @@ pub fn put_own(table: &Table, list: &[u8]) -> Table
     ensures { Owned (table_in table.now) list.now (table_in result) }
 {
     let mut out = *table;
-    let mut c: usize = 0;
-    while c < list.len() {
-        if list[c] == 255 {
+    for (c, x) in list.iter().enumerate() {
+        if *x == 255 {
             out[c] = word_of(Cell::Atom(0));
         }
-        c += 1;
     }
     out
 }

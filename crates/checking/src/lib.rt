@@ -25,19 +25,18 @@ pub enum Judged {
 }
 
 // Is a list in good form right? Its entries are put together as classes of cells; then cells that show one message are one class.
-fn is_right<'a>(table: &'a Table, n: usize, run: &'a Run, count: usize, list: &[u8]) -> bool
+fn is_right(table: &Table, n: usize, run: &Run, count: usize, list: &[u8]) -> bool
     requires table_words { TableWords n table.now }
     requires run_words { RunWords n run.now count }
     requires form { Form (table_in table.now) n list.now }
     ensures { Decides result (RightList (table_in table.now) (run_in count run.now) (entry_cell list.now)) }
 {
     let owned = form::put_own(table, list);
-    let f = follow::follow(&owned, n, list);
-    if !f.ok {
+    let followed = follow::follow(&owned, n, list);
+    if !followed.ok {
         return false;
     }
-    let followed = f.rep;
-    let rep = classes::upward::raise(&owned, n, followed);
+    let rep = classes::upward::raise(&owned, n, followed.rep);
     made::all_made(&owned, n, &rep, run, count)
 }
 
@@ -46,22 +45,20 @@ pub fn check(file: &[u8], list: &[u8]) -> Judged
     ensures { CheckPromise file.now list.now result }
 {
     let case = casefile::read_case(file);
-    let verdict = case.verdict;
-    if let Verdict::Refused(number, place) = verdict {
+    if let Verdict::Refused(number, place) = case.verdict {
         return Judged::Refused(number, place);
     }
-    let t = case.table;
-    let e = case.run;
-    let n = t.count;
+    let table = &case.table.words;
+    let n = case.table.count;
     if list.len() != n {
         return Judged::Refused(10, n);
     }
-    let bad = form::first_bad(&t.words, n, list);
-    if bad < n {
+    if let Some(bad) = form::first_bad(table, n, list) {
         return Judged::Refused(10, bad);
     }
-    if is_right(&t.words, n, &e.words, e.count, list) {
-        return Judged::Right;
+    if is_right(table, n, &case.run.words, case.run.count, list) {
+        Judged::Right
+    } else {
+        Judged::Wrong
     }
-    Judged::Wrong
 }

@@ -9,51 +9,29 @@ use cells::{Event, Run, Table, event_at};
 use knowledge::heard::learnt_before;
 
 // Is what the event at p asks for built from what was learnt before it? An LN asks for nothing.
-fn made_at<'a>(
-    table: &'a Table,
-    n: usize,
-    rep: &'a [u8; 129],
-    run: &'a Run,
-    count: usize,
-    p: usize,
-) -> bool
+fn made_at(table: &Table, n: usize, rep: &[u8; 129], run: &Run, count: usize, p: usize) -> bool
     requires table_words { TableWords n table.now }
     requires class_row { ClassRow n rep.now }
     requires run_words { RunWords n run.now count }
     requires p_lt_count { p < count }
     ensures { MadeAt (table_in table.now) rep.now (run_in count run.now) p result }
 {
-    let event = event_at(run, p);
-    match event {
+    match event_at(run, p) {
         Event::Make(x) => {
             let seen = learnt_before(n, rep, run, count, p);
-            let k = knowledge::open_known(table, n, rep, seen);
-            let built = k.built;
-            knowledge::has(n, rep, &built, x)
+            let known = knowledge::open_known(table, n, rep, seen);
+            knowledge::has(n, rep, &known.built, x)
         }
         Event::Learn(_) => true,
     }
 }
 
 // Is every MK cell built from what was learnt before it?
-pub fn all_made<'a>(
-    table: &'a Table,
-    n: usize,
-    rep: &'a [u8; 129],
-    run: &'a Run,
-    count: usize,
-) -> bool
+pub fn all_made(table: &Table, n: usize, rep: &[u8; 129], run: &Run, count: usize) -> bool
     requires table_words { TableWords n table.now }
     requires class_row { ClassRow n rep.now }
     requires run_words { RunWords n run.now count }
     ensures { AllMade (table_in table.now) rep.now (run_in count run.now) result }
 {
-    let mut p: usize = 0;
-    while p < count {
-        if !made_at(table, n, rep, run, count, p) {
-            return false;
-        }
-        p += 1;
-    }
-    true
+    (0..count).all(|p| made_at(table, n, rep, run, count, p))
 }

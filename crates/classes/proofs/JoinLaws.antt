@@ -1,15 +1,13 @@
--- A relabelling of the class array, turn by turn, and what it means.
-use mathlib.Core.Path.{◌≡◌, refl, sym, ◌∙◌}
+-- A relabelling of the class array, as far as it has come, and what it means.
+use mathlib.Core.Path.{◌≡◌, sym, ◌∙◌}
 use mathlib.Core.Logic.{inl, inr}
 use mathlib.Core.List.{List}
-use Prim.Native.Nat.{ℕ, ◌+◌, ◌≤◌, ◌<◌, min}
+use Prim.Native.Nat.{ℕ, ◌≤◌, ◌<◌}
 use native.Mathlib.Omega.{arith}
-use lib.ListN.{length, get_or, set, length-set}
-use lib.Seq.{get_or-set_same, get_or-set_other}
+use lib.ListN.{length, get_or}
 use lib.Dec.{eqb}
-use borrow.Author.Count.{below_more}
 use borrow.Author.Tests.{eq-eqb, ne_eqb, eqb-true}
-use Rattle.model.specs.Case.{VA, Table}
+use Rattle.model.specs.Case.{Table}
 use Rattle.model.proofs.Finite.{eq?}
 use Rattle.theory.specs.Cells.{class_at}
 use Rattle.theory.specs.Classes.{Joins}
@@ -28,57 +26,10 @@ pub record Relabelling (rep : List ℕ) (o r : ℕ) (out : List ℕ) (n : ℕ) :
   pub done : (i : ℕ) → i < n → Label o r (get_or rep i 0) (get_or out i 0)
   pub rest : (i : ℕ) → n ≤ i → get_or out i 0 ≡ get_or rep i 0
 
-module _ (rep : List ℕ) (o r : ℕ) where
-  pub relabel_none : Relabelling rep o r rep 0
-  relabel_none = record { long = refl; done = λ i h. absurd (omega arith); rest = λ i h. refl }
-
-  module _ (out : List ℕ) (i : ℕ) (w : Relabelling rep o r out i) where
-    pub relabel_take : i < length rep → get_or out i 0 ≡ o → Relabelling rep o r (set out i r) (i + 1)
-    relabel_take h e =
-        let here : get_or (set out i r) i 0 ≡ r = get_or-set_same out i r 0 (rw w.long h) in
-        let was : get_or rep i 0 ≡ o = sym (w.rest i (omega arith)) ∙ e in
-        let other : (k : ℕ) → (k ≡ i → ⊥) → get_or (set out i r) k 0 ≡ get_or out k 0 = λ k ne. get_or-set_other out i k r 0 ne in
-        record {
-          long = length-set out i r ∙ w.long;
-          done = below_more (λ (k : ℕ). Label o r (get_or rep k 0) (get_or (set out i r) k 0)) i
-              (λ k g. let z = other k (λ e. omega arith) in (λ y. z ∙ (w.done k g).0 y, λ y. z ∙ (w.done k g).1 y))
-              (λ _. here, λ no. absurd (no was));
-          rest = λ k g. other k (λ e. omega arith) ∙ w.rest k (omega arith);
-        }
-
-    pub relabel_skip : (get_or out i 0 ≡ o → ⊥) → Relabelling rep o r out (i + 1)
-    relabel_skip ne =
-        let same = w.rest i (omega arith) in
-        record {
-          long = w.long;
-          done = below_more (λ (k : ℕ). Label o r (get_or rep k 0) (get_or out k 0)) i w.done (λ e. absurd (ne (same ∙ e)), λ _. same);
-          rest = λ k g. w.rest k (omega arith);
-        }
-
-  pub relabel_whole : (out : List ℕ) (n : ℕ) → 129 ≤ n → Relabelling rep o r out n → Relabelled rep o r out
-  relabel_whole out n h w = record { long = w.long; names = λ c. w.done (min c 128) (omega arith) }
-
--- Which of two representatives stands.
-module _ (T : Table) (a b : ℕ) where
-  pub stands_var : T b ≡ VA → Stands T a b
-  stands_var v = λ s. absurd (s v)
-
-  pub stands_low : (T a ≡ VA → ⊥) → a ≤ b → Stands T a b
-  stands_low s h = λ _. (s, h)
-
 -- Two classes in one.
 module _ (n : ℕ) (T : Table) (rep : List ℕ) (few : n ≤ 128) (K : Kept n T rep) where
   abbrev cls : ℕ → ℕ
   cls = class_at rep
-
-  pub join_same : (a b : ℕ) → class_at rep a ≡ class_at rep b → Joined n T rep a b rep
-  join_same a b e =
-      record {
-        kept = K;
-        sat = λ m. (λ s. (s, cc (s a, s b)), λ (s, _). s);
-        most = omega arith;
-        fewer = λ ne. absurd (ne e);
-      }
 
   module _ (a b : ℕ) (inside-a : a < n) (inside-b : b < n) (out : List ℕ) (differ : class_at rep a ≡ class_at rep b → ⊥) (stand : Stands T (class_at rep a) (class_at rep b))
       (w : Relabelled rep (class_at rep b) (class_at rep a) out) where

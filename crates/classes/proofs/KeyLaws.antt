@@ -1,37 +1,14 @@
--- The key of a cell by what it is, and whether it has parts; cells that are alike share both.
+-- Whether a cell has parts; cells that are alike share this, and their key.
 use mathlib.Core.Path.{◌≡◌, refl}
 use Prim.Native.Nat.{ℕ}
 use Rattle.model.specs.Case as case
 use Rattle.model.specs.Case.{AT, VA, ONE, TWO}
 use Rattle.model.proofs.Read.{clash}
 use Rattle.theory.specs.Classes.{Alike, atoms, ones, twos}
-use Rattle.cells.specs.Cells.{as_cell, parts_of}
-use Rattle.cells.specs.declared.Cell.{Cell}
-use Rattle.cells.specs.declared.Cell.TheVariants as cell
+use Rattle.cells.specs.Cells.{parts_of}
 use Rattle.cells.specs.declared.Parts.{Parts}
 use Rattle.cells.specs.declared.Parts.TheVariants as parts
-use Rattle.classes.specs.Links.{mix_of, key_of, Parted, one, two}
-
-module _ (cls : ℕ → ℕ) {k : Cell} where
-  pub key_name : {n : ℕ} → k ≡ cell.Atom n → 0 ≡ key_of cls (as_cell k)
-  unfolding key_of
-  key_name e = rw e refl
-
-  pub key_variable : k ≡ cell.Variable → 1 ≡ key_of cls (as_cell k)
-  unfolding key_of
-  key_variable e = rw e refl
-
-  pub key_pair : {l r x y v : ℕ} → k ≡ cell.Pair l r → x ≡ cls l → y ≡ cls r → v ≡ mix_of x y 2 → v ≡ key_of cls (as_cell k)
-  unfolding key_of
-  key_pair e i j m = rw (m, i, j, e) refl
-
-  pub key_seal : {b c x y v : ℕ} → k ≡ cell.Seal b c → x ≡ cls b → y ≡ cls c → v ≡ mix_of x y 3 → v ≡ key_of cls (as_cell k)
-  unfolding key_of
-  key_seal e i j m = rw (m, i, j, e) refl
-
-  pub key_apply : {f a y v : ℕ} → k ≡ cell.Apply f a → y ≡ cls a → v ≡ mix_of f y 4 → v ≡ key_of cls (as_cell k)
-  unfolding key_of
-  key_apply e i m = rw (m, i, e) refl
+use Rattle.classes.specs.Links.{key_of, Parted, one, two}
 
 pub alike_key : {cls : ℕ → ℕ} {k k' : case.Cell} → Alike cls k k' → key_of cls k ≡ key_of cls k'
 unfolding key_of

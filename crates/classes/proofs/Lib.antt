@@ -2,7 +2,6 @@ pub mod Count
 pub mod RowLaws
 pub mod JoinLaws
 pub mod DifferLaws
-pub mod Tags
 pub mod TwinLaws
 pub mod WordLaws
 pub mod SolvedLaws

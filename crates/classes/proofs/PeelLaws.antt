@@ -1,8 +1,8 @@
 -- The occurs check: marks that grow upwards from cells without parts, and what it means that all cells, or not all, are marked.
 use mathlib.Core.Path.{◌≡◌, refl, sym, ◌∙◌, ap, subst}
-use mathlib.Core.Bool.{Bool, true, false, cond, not, true≢false, false≢true}
+use mathlib.Core.Bool.{Bool, true, false, cond, not, true≢false}
 use mathlib.Core.List.{List}
-use mathlib.Core.Logic.{◌↔◌, inl, inr}
+use mathlib.Core.Logic.{inl, inr}
 use Prim.Native.Nat.{ℕ, ◌+◌, ◌≤◌, ◌<◌, min}
 use native.Mathlib.Omega.{arith}
 use native.Mathlib.Decide.{dec_lt}
@@ -20,7 +20,6 @@ use Rattle.theory.proofs.Answers.{round_no}
 use Rattle.theory.proofs.Classes.{all_done}
 use Rattle.theory.proofs.Rows.{rows_part}
 use Rattle.cells.specs.Cells.{parts_of}
-use Rattle.cells.specs.declared.Parts.{Parts}
 use Rattle.cells.specs.declared.Parts.TheVariants as parts
 use Rattle.classes.specs.Kept.{Kept, Finite, Unmet}
 use Rattle.classes.specs.Peel.{Done, class_table, Peeled, Fresh, undone, Peels}
@@ -29,35 +28,23 @@ use Rattle.theory.proofs.MarkRows.{set_cases, set_on, set_kept}
 
 -- ---- the parts of a cell
 
--- The parts p of a cell that was read from the table at x, which is y.
-pub parts_read : (T : Table) {p p' : Parts} {k : Cell} {x y : ℕ} → p ≡ p' → p ≡ parts_of k → k ≡ T x → x ≡ y → p' ≡ parts_of (T y)
-parts_read T e i j z = sym e ∙ i ∙ ap parts_of (j ∙ ap T z)
+pub part_arg : (k : Cell) (a : ℕ) → parts.One a ≡ parts_of k → Part k a
+part_arg (AT n) a e = clash (cc)
+part_arg VA a e = clash (cc)
+part_arg (ONE g b) a e = subst (λ x. Part (ONE g b) x) (cc) in_arg
+part_arg (TWO h l r) a e = clash (cc)
 
-module _ (marks : List ℕ) where
-  pub done_none : (k : Cell) → parts.None ≡ parts_of k → Done marks k
-  done_none (AT n) e d p = elim p [ ]
-  done_none VA e d p = elim p [ ]
-  done_none (ONE g a) e d p = clash (cc)
-  done_none (TWO h l r) e d p = clash (cc)
+pub part_left : (k : Cell) (l r : ℕ) → parts.Two l r ≡ parts_of k → Part k l
+part_left (AT n) l r e = clash (cc)
+part_left VA l r e = clash (cc)
+part_left (ONE g a) l r e = clash (cc)
+part_left (TWO h a b) l r e = subst (λ x. Part (TWO h a b) x) (cc) in_left
 
-  pub done_one : (k : Cell) (a : ℕ) → parts.One a ≡ parts_of k → On marks a ↔ Done marks k
-  done_one (AT n) a e = clash (cc)
-  done_one VA a e = clash (cc)
-  done_one (ONE g b) a e = (λ o d p. subst (On marks) (cc (only p)) o, λ w. w a (subst (λ x. Part (ONE g b) x) (cc) in_arg))
-    where
-      only : {d : ℕ} → Part (ONE g b) d → d ≡ b
-      only in_arg = refl
-  done_one (TWO h l r) a e = clash (cc)
-
-  pub done_two : (k : Cell) (l r : ℕ) → parts.Two l r ≡ parts_of k → (On marks l × On marks r) ↔ Done marks k
-  done_two (AT n) l r e = clash (cc)
-  done_two VA l r e = clash (cc)
-  done_two (ONE g a) l r e = clash (cc)
-  done_two (TWO h a b) l r e = (both, λ w. (subst (On marks) (cc) (w a in_left), subst (On marks) (cc) (w b in_right)))
-    where
-      both : On marks l × On marks r → Done marks (TWO h a b)
-      both (o, i) d in_left = subst (On marks) (cc) o
-      both (o, i) d in_right = subst (On marks) (cc) i
+pub part_right : (k : Cell) (l r : ℕ) → parts.Two l r ≡ parts_of k → Part k r
+part_right (AT n) l r e = clash (cc)
+part_right VA l r e = clash (cc)
+part_right (ONE g a) l r e = clash (cc)
+part_right (TWO h a b) l r e = subst (λ x. Part (TWO h a b) x) (cc) in_right
 
 -- ---- one more mark
 unmarked : (l : List ℕ) (x : ℕ) → (On l x → ⊥) → not (eqb (get_or l x 0) 1) ≡ true
@@ -117,9 +104,6 @@ peeled_none S =
 
 -- ---- the turns of a sweep
 module _ (S : Table) (marks : List ℕ) where
-  pub peels_none : Peeled S marks → Peels S marks 0 marks false
-  peels_none P = record { peeled = P; most = omega arith; fewer = λ e. absurd (false≢true e); shut = λ e c h. absurd (omega arith) }
-
   module _ (c : ℕ) (out : List ℕ) (changed : Bool) (w : Peels S marks c out changed) (small : c < 129) where
     pub peels_mark : Fresh S out c true → Peels S marks (c + 1) (set out c 1) true
     peels_mark f =

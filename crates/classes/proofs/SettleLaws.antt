@@ -83,9 +83,6 @@ pub record Stage (T : Table) (P : List ℕ → Type 0) (rep out : List ℕ) : Ty
   pub most : class_count out ≤ class_count rep
 
 module _ {T : Table} {P : List ℕ → Type 0} {rep : List ℕ} where
-  pub stage_none : P rep → Stage T P rep rep
-  stage_none p = record { holds = p; sat = λ m mr. Iff.rfl; most = omega arith }
-
   pub stage_more : {out next : List ℕ} {changed : Bool} → Stage T P rep out → Moved T P out next changed → Stage T P rep next
   stage_more v w = record { holds = w.holds; sat = λ m mr. Iff.trans (v.sat m mr) (w.sat m mr); most = omega (arith, v.most, w.most) }
 
@@ -95,9 +92,6 @@ module _ {T : Table} {P : List ℕ → Type 0} {rep : List ℕ} where
 pub record Sweeping (n : ℕ) (T : Table) (rep out : List ℕ) (changed : Bool) (c : ℕ) : Type 0 where
   pub moved : Moved T (Kept n T) rep out changed
   pub shut : changed ≡ false → (i : ℕ) → c ≤ i → i < n + 1 → Shut T (class_at rep) i
-
-pub sweeping_none : {n : ℕ} {T : Table} (rep : List ℕ) → Kept n T rep → Sweeping n T rep rep false (n + 1)
-sweeping_none rep K = record { moved = moved_none rep K; shut = λ e i h l. absurd (omega arith) }
 
 module _ {n : ℕ} {T : Table} {rep out : List ℕ} {changed : Bool} {c : ℕ} (t : Sweeping n T rep out changed c) where
   pub sweeping_no : Unmet T (class_at out) → Unmet T (class_at rep)

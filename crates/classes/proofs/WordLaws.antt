@@ -10,39 +10,13 @@ use lib.Seq.{get_or-set_same, get_or-set_other}
 use Rattle.model.specs.Message.{App}
 use Rattle.model.specs.Case as case
 use Rattle.model.specs.Case.{AT, VA, ONE, TWO, Table, Part, in_arg, in_left, in_right, Lower}
-use Rattle.model.specs.Stored.{cell_at, cell_in, table_in, word_of}
+use Rattle.model.specs.Stored.{cell_at, cell_in, table_in}
 use Rattle.model.proofs.Finite.{eq?}
 use Rattle.model.proofs.Read.{var?}
 use Rattle.model.proofs.Rows.{Fits, word_cell, cell_word, table_at, table_past}
 use Rattle.theory.specs.Classes.{Likes, Alike, atoms, ones, twos}
 use Rattle.theory.proofs.Classes.{alike_sym, alike_solid}
-use Rattle.cells.specs.Cells.{as_cell}
-use Rattle.cells.specs.declared.Cell.{Cell}
-use Rattle.cells.specs.declared.Cell.TheVariants as cell
 use Rattle.classes.specs.Twins.{class_word, Worded, Earliest, First, Twin}
-
--- ---- the words
-
-module _ (cls : ℕ → ℕ) (c : ℕ) {k : Cell} where
-  pub word_name : {n v : ℕ} → k ≡ cell.Atom n → v ≡ word_of (as_cell k) → v ≡ class_word cls c (as_cell k)
-  unfolding class_word
-  word_name e w = w ∙ rw e refl
-
-  pub word_free : {v : ℕ} → k ≡ cell.Variable → v ≡ word_of (as_cell k) → v + c ≡ class_word cls c (as_cell k)
-  unfolding class_word
-  word_free e w = rw (w, e) refl
-
-  pub word_pair : {l r x y v : ℕ} → k ≡ cell.Pair l r → x ≡ cls l → y ≡ cls r → v ≡ word_of (as_cell (cell.Pair x y)) → v ≡ class_word cls c (as_cell k)
-  unfolding class_word
-  word_pair e i j w = w ∙ rw (i, j, e) refl
-
-  pub word_seal : {b s x y v : ℕ} → k ≡ cell.Seal b s → x ≡ cls b → y ≡ cls s → v ≡ word_of (as_cell (cell.Seal x y)) → v ≡ class_word cls c (as_cell k)
-  unfolding class_word
-  word_seal e i j w = w ∙ rw (i, j, e) refl
-
-  pub word_apply : {f a y v : ℕ} → k ≡ cell.Apply f a → y ≡ cls a → v ≡ word_of (as_cell (cell.Apply f y)) → v ≡ class_word cls c (as_cell k)
-  unfolding class_word
-  word_apply e i w = w ∙ rw (i, e) refl
 
 -- ---- the bytes of a table's cells are bytes
 

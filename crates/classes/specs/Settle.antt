@@ -1,14 +1,13 @@
 -- Closing the classes: joins that every message of the cells asks for, until nothing is left to join.
 -- Shut: a cell is alike the one that stands for its class; Asks: what one comparison answers; Moved: what joins keep; Bound, BindsAll, Settles, Unifies: the functions.
-use Rattle.std.specs.Prelude.{◌≡◌, Bool, true, false, List, ◌↔◌, ℕ, ◌≤◌, ◌<◌}
+use Rattle.std.specs.Prelude.{◌≡◌, Bool, true, false, List, ◌↔◌, ℕ, ◌≤◌, ◌<◌, Result, Ok, Err}
 use Rattle.model.specs.Message.{Message}
 use Rattle.model.specs.Case.{VA, Table, Reads}
 use Rattle.theory.specs.Cells.{class_at}
 use Rattle.theory.specs.Classes.{Alike, Closed, Sat}
 use Rattle.classes.specs.declared.alike.Diff.{Diff}
-use Rattle.classes.specs.declared.alike.Diff.TheVariants.{Same, Clash, Parts}
-use Rattle.classes.specs.declared.closing.Step.{Step}
-use Rattle.classes.specs.declared.closing.Bindings.{Bindings}
+use Rattle.classes.specs.declared.alike.Diff.TheVariants as diff
+use Rattle.classes.specs.declared.closing.Clash.{Clash}
 use Rattle.classes.specs.declared.Settled.{Settled}
 use Rattle.classes.specs.Kept.{Kept, class_count, Unmet, Never, Solved}
 
@@ -19,16 +18,10 @@ Shut T cls c = (T c ≡ VA → ⊥) → Alike cls (T c) (T (cls c))
 -- What the comparison of the cell c with the one that stands for its class answers: nothing is left to join here; no messages satisfy the classes;
 -- or two cells of different classes that all messages that satisfy the classes make equal.
 abbrev pub Asks : ℕ → Table → List ℕ → ℕ → Diff → Type 0
-Asks n T rep c Same = Shut T (class_at rep) c
-Asks n T rep c Clash = Unmet T (class_at rep)
-Asks n T rep c (Parts x y) =
+Asks n T rep c diff.Same = Shut T (class_at rep) c
+Asks n T rep c diff.Clash = Unmet T (class_at rep)
+Asks n T rep c (diff.Parts x y) =
     (x < n) × (y < n) × (class_at rep x ≡ class_at rep y → ⊥) × ((m : ℕ → Message) → Reads T m m → Sat (class_at rep) m → m x ≡ m y)
-
--- r says whether the answer is Same.
-abbrev pub same_of : Diff → Bool → Type 0
-same_of Same r = r ≡ true
-same_of Clash r = r ≡ false
-same_of (Parts x y) r = r ≡ false
 
 -- The classes out, of which P holds, are those of rep after joins that all messages that satisfy rep ask for; changed says whether there were any.
 pub record Moved (T : Table) (P : List ℕ → Type 0) (rep out : List ℕ) (changed : Bool) : Type 0 where
@@ -38,17 +31,15 @@ pub record Moved (T : Table) (P : List ℕ → Type 0) (rep out : List ℕ) (cha
   pub fewer : changed ≡ true → class_count out < class_count rep
   pub still : changed ≡ false → out ≡ rep
 
--- A binding step at the cell c, which makes the classes out of rep.
-pub record Bound (n : ℕ) (T : Table) (rep : List ℕ) (c : ℕ) (out : List ℕ) (r : Step) : Type 0 where
-  pub no : r.ok ≡ false → Unmet T (class_at rep)
-  pub yes : r.ok ≡ true → Moved T (Kept n T) rep out r.changed
-  pub shut : r.ok ≡ true → r.changed ≡ false → Shut T (class_at rep) c
+-- A binding step at the cell c, which makes the classes out of rep: whether it joined, or a clash.
+abbrev pub Bound : ℕ → Table → List ℕ → ℕ → List ℕ → Result Bool Clash → Type 0
+Bound n T rep c out (Ok changed) = Moved T (Kept n T) rep out changed × (changed ≡ false → Shut T (class_at rep) c)
+Bound n T rep c out (Err e) = Unmet T (class_at rep)
 
 -- A binding step at each of the cells below upto.
-pub record BindsAll (n : ℕ) (T : Table) (rep : List ℕ) (upto : ℕ) (r : Bindings) : Type 0 where
-  pub no : r.ok ≡ false → Unmet T (class_at rep)
-  pub yes : r.ok ≡ true → Moved T (Kept n T) rep r.rep r.changed
-  pub shut : r.ok ≡ true → r.changed ≡ false → (c : ℕ) → c < upto → Shut T (class_at rep) c
+abbrev pub BindsAll : ℕ → Table → List ℕ → ℕ → List ℕ → Result Bool Clash → Type 0
+BindsAll n T rep upto out (Ok changed) = Moved T (Kept n T) rep out changed × (changed ≡ false → (c : ℕ) → c < upto → Shut T (class_at rep) c)
+BindsAll n T rep upto out (Err e) = Unmet T (class_at rep)
 
 -- Nothing is left to join, and the same messages satisfy the classes; or none do.
 pub record Settles (n : ℕ) (T : Table) (rep : List ℕ) (r : Settled) : Type 0 where

@@ -6,10 +6,11 @@ ghost use Rattle.model.specs.Stored.{table_in};
 ghost use Rattle.theory.specs.Cells.{class_at};
 ghost use Rattle.classes.specs.Differ.{Told, PartTold};
 
+use super::Row;
 use cells::{Meeting, Table, cell_at};
 
 // How two cells differ: not at all, in kind, name or function, or in two parts that are to be joined.
-#[derive(Clone, Copy)]
+#[derive(Clone, Copy, Debug, PartialEq, Eq)]
 pub enum Diff {
     Same,
     Clash,
@@ -17,39 +18,32 @@ pub enum Diff {
 }
 
 // The cell that stands for the class of c, as it is stored: from 128 on, that of 128.
-pub fn class_byte(rep: &[u8; 129], c: usize) -> u8
+pub fn class_byte(rep: &Row, c: usize) -> u8
     ensures { result ≡ class_at rep.now c }
 {
     if c < 128 { rep[c] } else { rep[128] }
 }
 
-// A byte as a number.
-fn number(x: u8) -> usize
-    ensures { result ≡ x }
-{
-    x as usize
-}
-
 // The same of a cell that is known to have an entry.
-pub fn class_within(rep: &[u8; 129], c: usize) -> usize
+pub fn class_within(rep: &Row, c: usize) -> usize
     requires { c ≤ 128 }
     ensures { result ≡ class_at rep.now c }
 {
-    number(rep[c])
+    usize::from(rep[c])
 }
 
 // The cell that stands for the class of c, as a number.
-pub fn class_of(rep: &[u8; 129], c: usize) -> usize
+pub fn class_of(rep: &Row, c: usize) -> usize
     ensures { result ≡ class_at rep.now c }
 {
-    class_byte(rep, c) as usize
+    usize::from(class_byte(rep, c))
 }
 
 // Two parts: of one class, or to be joined.
-fn part(rep: &[u8; 129], x: u8, y: u8) -> Diff
+fn part(rep: &Row, x: u8, y: u8) -> Diff
     ensures { PartTold (class_at rep.now) x y result }
 {
-    if class_of(rep, x as usize) == class_of(rep, y as usize) {
+    if class_of(rep, usize::from(x)) == class_of(rep, usize::from(y)) {
         Diff::Same
     } else {
         Diff::Parts(x, y)
@@ -57,22 +51,20 @@ fn part(rep: &[u8; 129], x: u8, y: u8) -> Diff
 }
 
 // Two cells of one kind with two parts.
-fn both(rep: &[u8; 129], a: u8, b: u8, x: u8, y: u8) -> Diff
+fn both(rep: &Row, a: u8, b: u8, x: u8, y: u8) -> Diff
     ensures { (h : Two) → Told (class_at rep.now) (TWO h a b) (TWO h x y) result }
 {
-    let d = part(rep, a, x);
-    let Diff::Same = d else {
-        return d;
-    };
-    part(rep, b, y)
+    match part(rep, a, x) {
+        Diff::Same => part(rep, b, y),
+        d => d,
+    }
 }
 
 // The cells c and d, by the classes of their parts. A variable is alike no cell.
-pub fn compare<'a>(table: &'a Table, rep: &'a [u8; 129], c: usize, d: usize) -> Diff
+pub fn compare(table: &Table, rep: &Row, c: usize, d: usize) -> Diff
     ensures { Told (class_at rep.now) (table_in table.now c) (table_in table.now d) result }
 {
-    let met = cells::meet(cell_at(table, c), cell_at(table, d));
-    match met {
+    match cells::meet(cell_at(table, c), cell_at(table, d)) {
         Meeting::Unlike => Diff::Clash,
         Meeting::Same => Diff::Same,
         Meeting::One(a, x) => part(rep, a, x),

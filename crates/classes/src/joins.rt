@@ -4,6 +4,7 @@ ghost use Rattle.model.specs.Stored.{table_in};
 ghost use Rattle.theory.specs.Cells.{TableWords};
 ghost use Rattle.classes.specs.Kept.{Kept, Stands, Relabelled, Joined};
 
+use super::Row;
 use super::alike::class_byte;
 use cells::{Table, is_variable};
 
@@ -12,48 +13,42 @@ fn stands(table: &Table, a: u8, b: u8) -> bool
     ensures yes { result ≡ true → Stands (table_in table.now) a b }
     ensures no { result ≡ false → Stands (table_in table.now) b a }
 {
-    let y = is_variable(table, b as usize);
-    if is_variable(table, a as usize) {
-        if y {
-            return a < b;
-        }
-        return false;
+    let y = is_variable(table, usize::from(b));
+    if is_variable(table, usize::from(a)) {
+        y && a < b
+    } else {
+        y || a < b
     }
-    if y {
-        return true;
-    }
-    a < b
 }
 
 // Every cell of the class o is of the class r.
-fn relabel(rep: [u8; 129], o: u8, r: u8) -> [u8; 129]
-    ensures { Relabelled rep o r result }
+fn relabel(rep: &mut Row, o: u8, r: u8)
+    ensures { Relabelled rep.old o r rep.new }
 {
-    let mut out = rep;
-    let mut i: usize = 0;
-    while i < 129 {
-        if out[i] == o {
-            out[i] = r;
+    for x in rep.iter_mut() {
+        if *x == o {
+            *x = r;
         }
-        i += 1;
     }
-    out
 }
 
 // The classes of a and b in one.
-pub fn join<'a>(table: &'a Table, n: usize, rep: [u8; 129], a: u8, b: u8) -> [u8; 129]
+pub fn join(table: &Table, n: usize, rep: Row, a: u8, b: u8) -> Row
     requires table_words { TableWords n table.now }
     requires kept { Kept n (table_in table.now) rep }
     requires a_lt_n { (a < n) × (b < n) }
     ensures { Joined n (table_in table.now) rep a b result }
 {
-    let x = class_byte(&rep, a as usize);
-    let y = class_byte(&rep, b as usize);
+    let mut out = rep;
+    let x = class_byte(&out, usize::from(a));
+    let y = class_byte(&out, usize::from(b));
     if x == y {
-        return rep;
+        return out;
     }
     if stands(table, x, y) {
-        return relabel(rep, y, x);
+        relabel(&mut out, y, x);
+    } else {
+        relabel(&mut out, x, y);
     }
-    relabel(rep, x, y)
+    out
 }

@@ -23,26 +23,26 @@ pub use joins::join;
 pub use peel::acyclic;
 pub use twins::start;
 
+// A class array: for each cell the one that stands for its class. A row of marks or links is of the same form.
+pub type Row = [u8; 129];
+
 // The classes with nothing left to join, or that there is no way to join.
 #[derive(Clone, Copy)]
 pub struct Settled {
     pub ok: bool,
-    pub rep: [u8; 129],
+    pub rep: Row,
 }
 
 // The classes of a and b in one, with all that this asks for; not ok if no messages of the cells allow it.
-pub fn unify<'a>(table: &'a Table, n: usize, rep: [u8; 129], a: u8, b: u8) -> Settled
+pub fn unify(table: &Table, n: usize, rep: Row, a: u8, b: u8) -> Settled
     requires table_words { TableWords n table.now }
     requires kept { Kept n (table_in table.now) rep }
     requires a_lt_n { (a < n) × (b < n) }
     ensures { Unifies n (table_in table.now) rep a b result }
 {
-    let joined = join(table, n, rep, a, b);
-    let s = settle(table, n, joined);
-    if !s.ok {
-        return s;
+    let s = settle(table, n, join(table, n, rep, a, b));
+    Settled {
+        ok: s.ok && acyclic(table, n, s.rep),
+        rep: s.rep,
     }
-    let out = s.rep;
-    let ok = acyclic(table, n, out);
-    Settled { ok: ok, rep: out }
 }

@@ -5,94 +5,66 @@ ghost use Rattle.theory.specs.Cells.{TableWords, class_at};
 ghost use Rattle.classes.specs.Kept.{Finite, Unmet, Kept};
 ghost use Rattle.classes.specs.Peel.{Done, class_table, Peeled, Fresh, Peels, AllDone};
 
+use super::Row;
 use super::alike::class_of;
 use cells::{Parts, Table, cell_at, parts_of};
 
-// Marks of cells that come round nowhere, and whether there are more than before.
-#[derive(Clone, Copy)]
-struct Peeling {
-    pub changed: bool,
-    pub done: [u8; 129],
-}
-
 // Whether the cell c is marked.
-fn marked(marks: &[u8; 129], c: u8) -> bool
+fn marked(marks: &Row, c: u8) -> bool
     requires { length marks.now ≡ 129 }
     ensures { result ≡ eqb (get_or marks.now c 0) 1 }
 {
-    let i = c as usize;
-    if i < 129 { marks[i] == 1 } else { false }
+    marks.get(usize::from(c)) == Some(&1)
 }
 
 // Whether the parts of the cell that stands for the class of c are all marked.
-fn ready<'a>(table: &'a Table, rep: &'a [u8; 129], done: &'a [u8; 129], c: u8) -> bool
+#[tactic(auto, using(crate::proofs::PeelLaws::part_arg, crate::proofs::PeelLaws::part_left, crate::proofs::PeelLaws::part_right))]
+fn ready(table: &Table, rep: &Row, done: &Row, c: u8) -> bool
     requires { length done.now ≡ 129 }
     ensures yes { result ≡ true → Done done.now (class_table (table_in table.now) rep.now c) }
     ensures no { result ≡ false → Done done.now (class_table (table_in table.now) rep.now c) → ⊥ }
 {
-    let parts = parts_of(cell_at(table, class_of(rep, c as usize)));
-    match parts {
+    match parts_of(cell_at(table, class_of(rep, usize::from(c)))) {
         Parts::None => true,
         Parts::One(a) => marked(done, a),
-        Parts::Two(l, r) => {
-            if !marked(done, r) {
-                return false;
-            }
-            marked(done, l)
-        }
+        Parts::Two(l, r) => marked(done, r) && marked(done, l),
     }
 }
 
 // Whether the cell c is to be marked.
-fn fresh<'a>(table: &'a Table, rep: &'a [u8; 129], done: &'a [u8; 129], c: u8) -> bool
+fn fresh(table: &Table, rep: &Row, done: &Row, c: u8) -> bool
     requires { length done.now ≡ 129 }
     ensures { Fresh (class_table (table_in table.now) rep.now) done.now c result }
 {
-    if marked(done, c) {
-        return false;
-    }
-    ready(table, rep, done, c)
+    !marked(done, c) && ready(table, rep, done, c)
 }
 
-// Marks each cell whose class has no part that is not marked, once over the cells and the first one beyond them.
-fn peel<'a>(table: &'a Table, n: usize, rep: &'a [u8; 129], start: [u8; 129]) -> Peeling
+// Marks each cell whose class has no part that is not marked, once over the cells and the first one beyond them; says whether there were any.
+fn peel(table: &Table, n: usize, rep: &Row, done: &mut Row) -> bool
     requires table_words { TableWords n table.now }
-    requires peeled { Peeled (class_table (table_in table.now) rep.now) start }
-    ensures { Peels (class_table (table_in table.now) rep.now) start (n + 1) result.done result.changed }
+    requires peeled { Peeled (class_table (table_in table.now) rep.now) done.old }
+    ensures { Peels (class_table (table_in table.now) rep.now) done.old (n + 1) done.new result }
 {
-    let mut done = start;
     let mut changed = false;
-    let mut c: usize = 0;
-    while c <= n {
-        if fresh(table, rep, &done, c as u8) {
+    for c in 0..n + 1 {
+        if fresh(table, rep, &*done, c as u8) {
             done[c] = 1;
             changed = true;
         }
-        c += 1;
     }
-    Peeling {
-        changed: changed,
-        done: done,
-    }
+    changed
 }
 
 // Whether the cells up to n are all marked.
-fn all_done(done: &[u8; 129], n: usize) -> bool
+fn all_done(done: &Row, n: usize) -> bool
     requires { n ≤ 128 }
     ensures { AllDone done.now (n + 1) result }
 {
-    let mut c: usize = 0;
-    while c <= n {
-        if done[c] != 1 {
-            return false;
-        }
-        c += 1;
-    }
-    true
+    (0..n + 1).all(|c| done[c] == 1)
 }
 
 // Whether the classes come round nowhere: cells are marked until nothing changes, and then all are.
-pub fn acyclic<'a>(table: &'a Table, n: usize, rep: [u8; 129]) -> bool
+pub fn acyclic(table: &Table, n: usize, rep: Row) -> bool
     requires table_words { TableWords n table.now }
     requires kept { Kept n (table_in table.now) rep }
     ensures yes { result ≡ true → Finite (table_in table.now) (class_at rep) }
@@ -100,11 +72,6 @@ pub fn acyclic<'a>(table: &'a Table, n: usize, rep: [u8; 129]) -> bool
         (Finite (table_in table.now) (class_at rep) → ⊥) }
 {
     let mut done = [0u8; 129];
-    loop {
-        let p = peel(table, n, &rep, done);
-        done = p.done;
-        if !p.changed {
-            return all_done(&done, n);
-        }
-    }
+    while peel(table, n, &rep, &mut done) {}
+    all_done(&done, n)
 }

@@ -5,25 +5,27 @@ ghost use Rattle.theory.specs.Cells.{TableWords, class_at};
 ghost use Rattle.cells.specs.Cells.{as_cell};
 ghost use Rattle.classes.specs.Twins.{class_word, Worded, Earliest, First, Twin, Start};
 
+use super::Row;
 use super::alike::class_byte;
 use cells::{Cell, Table, cell_at, word_of};
 
 // The class word of the cell c, which is k: the word of k with the classes of its parts for the parts. A variable has one of its own.
-fn class_word(rep: &[u8; 129], c: u8, k: Cell) -> u32
+#[tactic(auto, unfolding(crate::specs::Twins::class_word))]
+fn class_word(rep: &Row, c: u8, k: Cell) -> u32
     ensures { result ≡ class_word (class_at rep.now) c (as_cell k) }
 {
     match k {
         Cell::Atom(_) => word_of(k),
-        Cell::Variable => word_of(k) + c as u32,
+        Cell::Variable => word_of(k) + u32::from(c),
         Cell::Pair(l, r) => word_of(Cell::Pair(
-            class_byte(rep, l as usize),
-            class_byte(rep, r as usize),
+            class_byte(rep, usize::from(l)),
+            class_byte(rep, usize::from(r)),
         )),
         Cell::Seal(b, s) => word_of(Cell::Seal(
-            class_byte(rep, b as usize),
-            class_byte(rep, s as usize),
+            class_byte(rep, usize::from(b)),
+            class_byte(rep, usize::from(s)),
         )),
-        Cell::Apply(f, a) => word_of(Cell::Apply(f, class_byte(rep, a as usize))),
+        Cell::Apply(f, a) => word_of(Cell::Apply(f, class_byte(rep, usize::from(a)))),
     }
 }
 
@@ -32,23 +34,13 @@ fn first_same(words: &[u32; 129], c: u8) -> u8
     requires { c ≤ 128 }
     ensures { Earliest words.now c result }
 {
-    let w = words[c as usize];
-    let mut d: usize = 0;
-    while words[d] != w {
-        d += 1;
-    }
-    d as u8
+    let w = words[usize::from(c)];
+    (0..c).find(|d| words[usize::from(*d)] == w).unwrap_or(c)
 }
 
 // The lowest cell that is alike c, where the entries and the class words below c are right; the class word of c is laid beside them. The cells beyond the table's all show
 // his own name: they need no word, and their class is that of the first of them.
-fn lowest<'a, 'b>(
-    table: &'a Table,
-    n: usize,
-    rep: &'a [u8; 129],
-    words: &'b mut [u32; 129],
-    c: u8,
-) -> u8
+fn lowest(table: &Table, n: usize, rep: &Row, words: &mut [u32; 129], c: u8) -> u8
     requires table_words { TableWords n table.now }
     requires c_bound { c ≤ 128 }
     requires by_index { (i : ℕ) → i < c → First (table_in table.now) (class_at rep.now) i }
@@ -56,7 +48,7 @@ fn lowest<'a, 'b>(
     ensures twin { Twin (table_in table.now) (class_at rep.now) c result }
     ensures worded { Worded n (table_in table.now) (class_at rep.now) (c + 1) words.new }
 {
-    let i = c as usize;
+    let i = usize::from(c);
     if n < i {
         return rep[n];
     }
@@ -65,18 +57,14 @@ fn lowest<'a, 'b>(
 }
 
 // The first class array: cells that show equal trees are one class, upwards from the lowest cell.
-pub fn start<'a>(table: &'a Table, n: usize) -> [u8; 129]
+pub fn start(table: &Table, n: usize) -> Row
     requires { TableWords n table.now }
     ensures { Start n (table_in table.now) result }
 {
     let mut rep = [0u8; 129];
     let mut words = [0u32; 129];
-    let mut c: u8 = 0;
-    while c < 129 {
-        let t = lowest(table, n, &rep, &mut words, c);
-        let i = c as usize;
-        rep[i] = t;
-        c += 1;
+    for c in 0..129 {
+        rep[c] = lowest(table, n, &rep, &mut words, c as u8);
     }
     rep
 }

@@ -10,34 +10,37 @@ ghost use Rattle.classes.specs.Kept.{Solved};
 ghost use Rattle.classes.specs.Links.{mix_of, key_of, Parted, Downward};
 ghost use Rattle.classes.specs.Upward.{FellowTold, Fellow, Meets, Lifts, Raised};
 
+use super::Row;
 use super::alike::{Diff, class_byte, class_of, compare};
 use super::joins::join;
 use cells::{Cell, Parts, Table, cell_at, parts_of};
-
-// The classes after joins, and whether there were any.
-#[derive(Clone, Copy)]
-struct Lifted {
-    pub changed: bool,
-    pub rep: [u8; 129],
-}
 
 // Three bytes in one.
 fn mix(x: u8, y: u8, k: u8) -> u8
     ensures { result ≡ mix_of x y k }
 {
-    ((x as u32 * 17 + y as u32 + k as u32 * 91) % 256) as u8
+    ((u32::from(x) * 17 + u32::from(y) + u32::from(k) * 91) % 256) as u8
 }
 
 // The key of a cell: cells that are alike by the classes of the parts share it.
-fn key_of(rep: &[u8; 129], k: Cell) -> u8
+#[tactic(auto, unfolding(crate::specs::Links::key_of))]
+fn key_of(rep: &Row, k: Cell) -> u8
     ensures { result ≡ key_of (class_at rep.now) (as_cell k) }
 {
     match k {
         Cell::Atom(_) => 0,
         Cell::Variable => 1,
-        Cell::Pair(l, r) => mix(class_byte(rep, l as usize), class_byte(rep, r as usize), 2),
-        Cell::Seal(b, k) => mix(class_byte(rep, b as usize), class_byte(rep, k as usize), 3),
-        Cell::Apply(f, a) => mix(f, class_byte(rep, a as usize), 4),
+        Cell::Pair(l, r) => mix(
+            class_byte(rep, usize::from(l)),
+            class_byte(rep, usize::from(r)),
+            2,
+        ),
+        Cell::Seal(b, k) => mix(
+            class_byte(rep, usize::from(b)),
+            class_byte(rep, usize::from(k)),
+            3,
+        ),
+        Cell::Apply(f, a) => mix(f, class_byte(rep, usize::from(a)), 4),
     }
 }
 
@@ -45,36 +48,18 @@ fn key_of(rep: &[u8; 129], k: Cell) -> u8
 fn has_parts(k: Cell) -> bool
     ensures { Decides result (Parted (as_cell k)) }
 {
-    let parts = parts_of(k);
-    match parts {
-        Parts::None => false,
-        Parts::One(_) => true,
-        Parts::Two(_, _) => true,
-    }
+    !matches!(parts_of(k), Parts::None)
 }
 
 // Does d stand for its class, and is it alike c by the classes of the parts?
-fn is_fellow<'a>(table: &'a Table, rep: &'a [u8; 129], c: usize, d: usize) -> bool
+fn is_fellow(table: &Table, rep: &Row, c: usize, d: usize) -> bool
     ensures { FellowTold (table_in table.now) (class_at rep.now) c d result }
 {
-    if class_of(rep, d) != d {
-        return false;
-    }
-    let Diff::Same = compare(table, rep, c, d) else {
-        return false;
-    };
-    true
+    class_of(rep, d) == d && matches!(compare(table, rep, c, d), Diff::Same)
 }
 
 // The lowest cell that is linked from `top` on, stands for its class and is alike c by the classes of the parts, or c.
-fn fellow<'a>(
-    table: &'a Table,
-    n: usize,
-    rep: &'a [u8; 129],
-    links: &'a [u8; 129],
-    top: u8,
-    c: u8,
-) -> u8
+fn fellow(table: &Table, n: usize, rep: &Row, links: &Row, top: u8, c: u8) -> u8
     requires table_words { TableWords n table.now }
     requires by_index { (d : ℕ) → get_or links.now d 0 ≤ d }
     requires top_le_c { (top ≤ c) × (c < n) }
@@ -82,11 +67,11 @@ fn fellow<'a>(
 {
     let mut best = c;
     let mut at = top;
-    while 0 < at {
+    while at > 0 {
         let d = at - 1;
-        let i = d as usize;
+        let i = usize::from(d);
         at = links[i];
-        if is_fellow(table, rep, c as usize, i) {
+        if is_fellow(table, rep, usize::from(c), i) {
             best = d;
         }
     }
@@ -94,12 +79,12 @@ fn fellow<'a>(
 }
 
 // The cell c, if it has parts and stands for its class, in one class with the lowest such cell that is alike, or linked; and whether it was joined.
-fn meet<'a, 'b>(
-    table: &'a Table,
+fn meet(
+    table: &Table,
     n: usize,
-    rep: &'b mut [u8; 129],
-    tops: &'b mut [u8; 256],
-    links: &'b mut [u8; 129],
+    rep: &mut Row,
+    tops: &mut [u8; 256],
+    links: &mut Row,
     c: u8,
 ) -> bool
     requires table_words { TableWords n table.now }
@@ -109,15 +94,12 @@ fn meet<'a, 'b>(
     ensures { Meets n (table_in table.now) c rep.old tops.old links.old
         rep.new tops.new links.new result }
 {
-    let i = c as usize;
+    let i = usize::from(c);
     let k = cell_at(table, i);
-    if !has_parts(k) {
+    if !has_parts(k) || class_of(&*rep, i) != i {
         return false;
     }
-    if class_of(&*rep, i) != i {
-        return false;
-    }
-    let h = key_of(&*rep, k) as usize;
+    let h = usize::from(key_of(&*rep, k));
     let top = tops[h];
     let t = fellow(table, n, &*rep, &*links, top, c);
     if t == c {
@@ -125,48 +107,35 @@ fn meet<'a, 'b>(
         tops[h] = c + 1;
         return false;
     }
-    let joined = join(table, n, *rep, t, c);
-    *rep = joined;
+    *rep = join(table, n, *rep, t, c);
     true
 }
 
 // Each cell that stands for its class with the lowest such cell that is alike, once over the cells. Keys are by the classes that a cell was met with, so that after a
-// join a cell may be missed; then this is not the last sweep.
-fn lift<'a>(table: &'a Table, n: usize, start: [u8; 129]) -> Lifted
+// join a cell may be missed; then this is not the last sweep. Says whether any were joined.
+fn lift(table: &Table, n: usize, rep: &mut Row) -> bool
     requires table_words { TableWords n table.now }
-    requires solved { Solved n (table_in table.now) start }
-    ensures { Lifts n (table_in table.now) start n result.rep result.changed }
+    requires solved { Solved n (table_in table.now) rep.old }
+    ensures { Lifts n (table_in table.now) rep.old n rep.new result }
 {
-    let mut rep = start;
     let mut tops = [0u8; 256];
     let mut links = [0u8; 129];
     let mut changed = false;
-    let mut c: usize = 0;
-    while c < n {
-        let joined = meet(table, n, &mut rep, &mut tops, &mut links, c as u8);
-        c += 1;
-        if joined {
+    for c in 0..n {
+        if meet(table, n, rep, &mut tops, &mut links, c as u8) {
             changed = true;
         }
     }
-    Lifted {
-        changed: changed,
-        rep: rep,
-    }
+    changed
 }
 
 // Joins upwards until cells that are alike are of one class.
-pub fn raise<'a>(table: &'a Table, n: usize, start: [u8; 129]) -> [u8; 129]
+pub fn raise(table: &Table, n: usize, start: Row) -> Row
     requires table_words { TableWords n table.now }
     requires solved { Solved n (table_in table.now) start }
     ensures { Raised n (table_in table.now) start result }
 {
     let mut rep = start;
-    loop {
-        let l = lift(table, n, rep);
-        rep = l.rep;
-        if !l.changed {
-            return rep;
-        }
-    }
+    while lift(table, n, &mut rep) {}
+    rep
 }

@@ -1,12 +1,10 @@
--- What a read adds stands behind what was read; the file of a text has at most 898 bytes, so none is refused with 9.
-use mathlib.Core.Path.{◌≡◌, refl, ◌∙◌, ap, subst}
+-- The file of a text has at most 898 bytes, so none is refused with 9.
+use mathlib.Core.Path.{◌≡◌, refl, sym, ◌∙◌, ap, subst}
 use mathlib.Core.List.{List, [], ◌∷◌, ◌++◌}
 use Prim.Native.Nat.{ℕ, ◌+◌, ◌*◌, ◌≤◌}
 use native.Mathlib.Omega.{arith}
 use lib.ListN.{length, take, drop, length-append}
 use lib.Seq.{length-take-le, take-add, take-append-le, drop_at}
-use borrow.Rule.Slice.PartMut.{put_mid, post_of}
-use Rattle.std.proofs.lemmas.Slice.{take-put_mid_below}
 use Rattle.model.proofs.Read.{clash}
 use Rattle.model.specs.Case.{Cell, Event, MK, LN}
 use Rattle.model.specs.Format.{cell_bytes, event_bytes, joined, file_bytes, mark, End}
@@ -16,22 +14,13 @@ use Rattle.grammar.specs.Filed.{file_of}
 use Rattle.grammar.specs.Text.{Outcome, refused, said, Told, faulty, many, loose, line, Replied, TextReply, refusal, short, written}
 use Rattle.grammar.proofs.Taken.{Bounded}
 use Rattle.grammar.proofs.Theorems.{accepted_iff_lines}
-use Rattle.typing.specs.declared.Entered.{Entered}
+use Rattle.std.specs.Prelude.{Result, Ok, Err}
+use Rattle.refusals.specs.declared.Refusal.{Refusal}
+use Rattle.refusals.specs.Numbers.{number_of, fault_of}
 use Rattle.typing.specs.Reply.{Refused, Written}
 use Rattle.typing.proofs.FileLaws.{cell_size}
 use Rattle.typing.proofs.Theorems.{written_accepted}
 use Rattle.enter.specs.Enters.{Enters}
-
--- ---- reading
-
--- A read into the rest of the buffer, behind what was read before.
-pub more_read : (start rest : List ℕ) (done k n : ℕ) → done ≤ length start → n ≤ length rest → take (done + n) (put_mid done k start rest) ≡ take done start ++ take n rest
-more_read start rest done k n h l =
-    let before = take done start in
-    let behind = post_of done k start in
-    take-add done n (put_mid done k start rest)
-    ∙ (ap (λ x. x ++ take n (drop done (put_mid done k start rest))) (take-put_mid_below done k start rest done (omega arith) h)
-    ∙ ap (λ x. before ++ x) (ap (take n) (drop_at before (rest ++ behind) done (length-take-le done start h)) ∙ take-append-le n rest behind l))
 
 -- ---- a file has at most 898 bytes
 
@@ -77,17 +66,31 @@ told_number (many l rest f h) e = omega arith
 told_number (loose l rest f h z) e = omega arith
 told_number (line l rest f h z t) e = told_number t e
 
-no_nine : {text before after : List ℕ} {o : Outcome} {r : Entered} → 898 ≤ length before → Told [] 0 text o → Replied Refused Written before o r after → (n : ℕ) → r ≡ Refused 9 n → ⊥
-no_nine h t (refusal number place) n e = told_number t (cc)
+-- Its number is that of a fault.
+numbered : {es : List Entry} {at n p : ℕ} {text : List ℕ} → Told es at text (refused n p) → number_of (fault_of n) ≡ n
+numbered (faulty n i (early b)) = refl
+numbered (faulty n i (wrong front b behind z w s)) = refl
+numbered (faulty n i (deep l w b m rest behind z s h k)) = refl
+numbered (many l rest f h) = refl
+numbered (loose l rest f h z) = refl
+numbered (line l rest f h z t) = numbered t
+
+-- The number by which a reply refuses.
+abbrev number_told : Result ℕ Refusal → ℕ
+number_told (Ok n) = 0
+number_told (Err e) = number_of e.fault
+
+no_nine : {text before after : List ℕ} {o : Outcome} {r : Result ℕ Refusal} → 898 ≤ length before → Told [] 0 text o → Replied Refused Written before o r after → (n : ℕ) → r ≡ Refused 9 n → ⊥
+no_nine h t (refusal number place) n e = told_number t (sym (numbered t) ∙ ap number_told e)
 no_nine {text} h t (short es l) n e = let s = said_size text es t in omega arith
 no_nine h t (written es l) n e = clash (cc)
 
-written_inside : {before after : List ℕ} {o : Outcome} {r : Entered} → Replied Refused Written before o r after → (n : ℕ) → r ≡ Written n → n ≤ length before
+written_inside : {before after : List ℕ} {o : Outcome} {r : Result ℕ Refusal} → Replied Refused Written before o r after → (n : ℕ) → r ≡ Written n → n ≤ length before
 written_inside (refusal number place) n e = clash (cc)
 written_inside (short es l) n e = clash (cc)
 written_inside (written es l) n e = let z : length (file_bytes (file_of es)) ≡ n = cc in omega arith
 
-pub enters : (text before after : List ℕ) (r : Entered) → 898 ≤ length before → length after ≡ length before → TextReply Refused Written text before r after → Enters text before r after
+pub enters : (text before after : List ℕ) (r : Result ℕ Refusal) → 898 ≤ length before → length after ≡ length before → TextReply Refused Written text before r after → Enters text before r after
 enters text before after r h k w = record {
   reply = w;
   inside = λ n e. let i = written_inside w.replied n e in omega arith;
@@ -97,16 +100,19 @@ enters text before after r h k w = record {
 -- ---- what is told of a text
 
 -- A refusal is one of the text: none is for want of room.
-pub refused_told : (text before after : List ℕ) (r : Entered) (n p : ℕ) → Enters text before r after → r ≡ Refused n p → Told [] 0 text (refused n p)
-refused_told text before after r n p w e = go w.reply.told w.reply.replied w.enough e
+pub refused_told : (text before after : List ℕ) (e : Refusal) → Enters text before (Err e) after → Told [] 0 text (refused (number_of e.fault) e.place)
+refused_told text before after e w = go w.reply.told w.reply.replied w.enough refl
   where
-    go : {o : Outcome} {r : Entered} {after : List ℕ} → Told [] 0 text o → Replied Refused Written before o r after → ((k : ℕ) → r ≡ Refused 9 k → ⊥) → r ≡ Refused n p → Told [] 0 text (refused n p)
-    go t (refusal number place) h e = (let z : refused number place ≡ refused n p = cc in subst (Told [] 0 text) z t)
-    go t (short es l) h e = absurd (h _ refl)
-    go t (written es l) h e = clash (cc)
+    go : {o : Outcome} {r : Result ℕ Refusal} {after : List ℕ} → Told [] 0 text o → Replied Refused Written before o r after → ((k : ℕ) → r ≡ Refused 9 k → ⊥) → r ≡ Err e →
+        Told [] 0 text (refused (number_of e.fault) e.place)
+    go t (refusal number place) h i =
+        (let f : fault_of number ≡ e.fault = cc in
+        let p : place ≡ e.place = cc in
+        let n : number ≡ number_of e.fault = sym (numbered t) ∙ ap number_of f in
+        subst (λ k. Told [] 0 text (refused k e.place)) n (subst (λ q. Told [] 0 text (refused number q)) p t))
+    go t (short es l) h i = absurd (h _ refl)
+    go t (written es l) h i = clash (cc)
 
 -- What is written is the file of the entries that the text says.
-pub said_told : (text before after : List ℕ) (r : Entered) (n : ℕ) → Enters text before r after → r ≡ Written n → (es : List Entry) × Told [] 0 text (said es) × (take n after ≡ file_bytes (file_of es))
-said_told text before after r n w e =
-    let (es, t, z, a) = written_accepted text before after n (subst (λ x. TextReply Refused Written text before x after) e w.reply) in
-    (es, t, z)
+pub said_told : (text before after : List ℕ) (n : ℕ) → Enters text before (Ok n) after → (es : List Entry) × Told [] 0 text (said es) × (take n after ≡ file_bytes (file_of es))
+said_told text before after n w = let (es, t, z, a) = written_accepted text before after n w.reply in (es, t, z)

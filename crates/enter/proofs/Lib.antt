@@ -1,4 +1,3 @@
--- The laws of the program's reading, its reply and the line of a refusal.
+-- The laws of the program's reply and the line of a refusal.
 pub mod SpotLaws
-pub mod PutLaws
 pub mod EnterLaws

@@ -1,38 +1,19 @@
--- What reading came to, the reply to the text that was read, and what is written of it.
--- Filled, NextRead, AllRead: what reading came to; Enters: the reply to a text, with a buffer that is enough; Sends, Answers, Does: what is written.
-use Rattle.std.specs.Prelude.{◌≡◌, List, [], ◌∷◌, ℕ, ◌≤◌, ◌<◌, length, take}
-use Rattle.std.specs.Io.KnownBytes.{Keeps, Appends, Consumes, IsAtEnd}
+-- The reply to the text that was read, and what is written of it.
+-- Enters: the reply to a text, with a buffer that is enough; Sends, Answers, Does: what is written.
+use Rattle.std.specs.Prelude.{◌≡◌, List, [], ◌∷◌, ℕ, ◌≤◌, ◌<◌, length, take, Result}
+use Rattle.std.specs.Io.KnownBytes.{Keeps, Appends}
 use Rattle.std.specs.declared.option.Option.{Option}
 use Rattle.model.specs.Format.{file_bytes}
 use Rattle.grammar.specs.Filed.{file_of}
 use Rattle.grammar.specs.Text.{Outcome, refused, said, Told, TextReply}
-use Rattle.typing.specs.declared.Entered.{Entered}
+use Rattle.refusals.specs.declared.Refusal.{Refusal}
 use Rattle.typing.specs.Reply.{Refused, Written}
-use Rattle.enter.specs.declared.Input.{Input}
-use Rattle.enter.specs.declared.Input.TheVariants.{Bytes, Failed}
 use Rattle.enter.specs.Refusal.{line_of, column_of, refusal_line}
-
--- ---- reading
-
--- The bytes that were read stand in the buffer.
-abbrev pub Filled : List ℕ → Input → Type 0
-Filled start (Bytes n) = n ≤ length start
-Filled start Failed = Unit
-
--- They are the next of the bytes that a reader has left, where these are known; none are read only at the end, or without room.
-abbrev pub NextRead : Option (List ℕ) → Option (List ℕ) → List ℕ → Input → Type 0
-NextRead left left' rest (Bytes n) = Consumes left left' (take n rest) × (n ≡ 0 → 0 < length rest → IsAtEnd left')
-NextRead left left' rest Failed = Unit
-
--- Likewise, and the buffer is full unless that was all.
-abbrev pub AllRead : Option (List ℕ) → Option (List ℕ) → List ℕ → Input → Type 0
-AllRead left left' start (Bytes n) = Consumes left left' (take n start) × (n < length start → IsAtEnd left')
-AllRead left left' start Failed = Unit
 
 -- ---- the reply
 
 -- The reply to a text, the file written lies within the buffer, and no file is too long for it.
-pub record Enters (text before : List ℕ) (r : Entered) (after : List ℕ) : Type 0 where
+pub record Enters (text before : List ℕ) (r : Result ℕ Refusal) (after : List ℕ) : Type 0 where
   pub reply : TextReply Refused Written text before r after
   pub inside : (n : ℕ) → r ≡ Written n → n ≤ length after
   pub enough : (n : ℕ) → r ≡ Refused 9 n → ⊥

@@ -1,4 +1,3 @@
 -- What the program promises of its reading, its reply and the line of a refusal.
 pub mod Refusal
-pub mod Put
 pub mod Enters

@@ -1,7 +1,7 @@
 -- The line of a refusal: its number and place, and the place as line and column.
--- feeds, since: line feeds, and bytes behind the last one; line_of, column_of: the line and column of a place; told: a text with a number; refusal_line: the line.
+-- feeds, since: line feeds, and bytes behind the last one; line_of, column_of: the line and column of a place; refusal_line: the line.
 use Rattle.std.specs.Prelude.{cond, List, [], ◌∷◌, ◌++◌, ℕ, ◌+◌, eqb, take}
-use Rattle.grammar.specs.Grammar.{decimal}
+use Rattle.lines.specs.Put.{told}
 
 -- How many line feeds there are.
 unfoldable pub feeds : List ℕ → ℕ
@@ -20,10 +20,6 @@ line_of text place = 1 + feeds (take place text)
 -- Its column, from 1: one more than the bytes between it and the last line feed before it, or the text's start.
 abbrev pub column_of : List ℕ → ℕ → ℕ
 column_of text place = 1 + since 0 (take place text)
-
--- A text with a number behind it.
-abbrev pub told : List ℕ → ℕ → List ℕ
-told text n = text ++ decimal n
 
 -- refused N at P, line L, column C
 abbrev pub refusal_line : ℕ → ℕ → ℕ → ℕ → List ℕ

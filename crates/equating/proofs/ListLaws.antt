@@ -8,7 +8,6 @@ use native.Mathlib.Omega.{arith}
 use lib.ListN.{length, get_or, drop, set, get_or-append, get_or-eq_default}
 use lib.Seq.{drop-cons, set_at, get_or_at}
 use Rattle.model.specs.Case.{Cell, AT, VA, ONE, TWO, Table}
-use Rattle.model.specs.Replies.{laid}
 use Rattle.model.proofs.Listed.{length_snoc}
 use Rattle.equating.specs.Entries.{entry_of, list_of}
 
@@ -52,6 +51,3 @@ module _ (T : Table) (rep : List ℕ) where
   pub list_of_none : (before : List ℕ) → before ≡ list_of T rep 0 ++ drop 0 before
   unfolding list_of
   list_of_none before = refl
-
-  pub list_of_laid : (before : List ℕ) (n : ℕ) → list_of T rep n ++ drop n before ≡ laid (list_of T rep n) before
-  list_of_laid before n = ap (λ (k : ℕ). list_of T rep n ++ drop k before) (sym (length_list_of n))

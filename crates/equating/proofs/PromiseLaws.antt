@@ -53,20 +53,6 @@ module _ (file : List ℕ) (a b : ℕ) (before : List ℕ) where
     abbrev Outside : Type 0
     Outside = (length f.cells ≤ a) ⊎ (length f.cells ≤ b)
 
-    not_asked : {A : Type 0} {g : File} → Outside → Asked file a b g → A
-    not_asked (inl o) q = absurd (omega (arith, one_length q.read, q.first))
-    not_asked (inr o) q = absurd (omega (arith, one_length q.read, q.second))
-
-    pub promise_outside : Outside → EquatePromise file a b before (Refused 5 (length f.cells)) before
-    promise_outside o = record {
-      refused = λ n p e. clash (cc);
-      outside = λ g e _. (ap (Refused 5) (one_length e), refl);
-      short = λ g q. not_asked o q;
-      replied = λ g q. not_asked o q.asked;
-      no = λ g q. not_asked o q.asked;
-      listed = λ g q. not_asked o q.asked;
-    }
-
     module _ (inside : Outside → ⊥) where
       not_outside : {A : Type 0} {g : File} → read_file file ≡ accepted g → (length g.cells ≤ a) ⊎ (length g.cells ≤ b) → A
       not_outside e o = absurd (inside (subst (λ (n : ℕ). (n ≤ a) ⊎ (n ≤ b)) (sym (one_length e)) o))
@@ -107,9 +93,6 @@ module _ (file : List ℕ) (a b : ℕ) (before : List ℕ) where
 module _ {file : List ℕ} {r : Case} (w : CaseFile file r) (a b : ℕ) (before : List ℕ) where
   abbrev Off : ℕ → Type 0
   Off n = (n ≤ a) ⊎ (n ≤ b)
-
-  pub reply_outside : (r.table.count ≤ a) ⊎ (r.table.count ≤ b) → EquatePromise file a b before (Refused 5 r.table.count) before
-  reply_outside = subst (λ (n : ℕ). Off n → EquatePromise file a b before (Refused 5 n) before) (sym (case_count w)) (promise_outside file a b before w.f w.read)
 
   module _ (inside : (r.table.count ≤ a) ⊎ (r.table.count ≤ b) → ⊥) where
     pub case_inside : (a < r.table.count) × (b < r.table.count)

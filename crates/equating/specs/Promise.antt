@@ -1,4 +1,4 @@
--- What equating promises (document 01, "Equating" and "Refusal numbers and their order"), for any bytes and any two numbers.
+-- What equating promises, for any bytes and any two numbers: the refusals in their order, "no", and the list.
 -- Asked: the cells asked about are cells of the file; Answered: and the buffer has room; EquatePromise: the contract, a field for each sentence. Assumes nothing.
 use Rattle.std.specs.Prelude.{◌≡◌, List, ◌⊎◌, ℕ, ◌≤◌, ◌<◌, length}
 use Rattle.model.specs.Case.{File}

@@ -24,16 +24,13 @@ pub enum Equated {
 fn outside(n: usize, a: usize, b: usize) -> bool
     ensures { Decides result ((n ≤ a) ⊎ (n ≤ b)) }
 {
-    if a >= n {
-        return true;
-    }
-    b >= n
+    a >= n || b >= n
 }
 
 // The entry of the cell c: for a variable the cell that stands for its class, for any other cell its own number.
-fn entry(table: &Table, rep: [u8; 129], c: usize) -> u8
+fn entry(table: &Table, rep: &[u8; 129], c: usize) -> u8
     requires { c < 128 }
-    ensures { result ≡ entry_of (table_in table.now c) (get_or rep c 0) c }
+    ensures { result ≡ entry_of (table_in table.now c) (get_or rep.now c 0) c }
 {
     if is_variable(table, c) {
         rep[c]
@@ -43,14 +40,12 @@ fn entry(table: &Table, rep: [u8; 129], c: usize) -> u8
 }
 
 // Writes the entries of n cells to the front of the buffer.
-fn write_list(table: &Table, rep: [u8; 129], n: usize, out: &mut [u8])
+fn write_list(table: &Table, rep: &[u8; 129], n: usize, out: &mut [u8])
     requires { (n ≤ 128) × (n ≤ length out.old) }
-    ensures { out.new ≡ laid (list_of (table_in table.now) rep n) out.old }
+    ensures { out.new ≡ laid (list_of (table_in table.now) rep.now n) out.old }
 {
-    let mut i: usize = 0;
-    while i < n {
+    for i in 0..n {
         out[i] = entry(table, rep, i);
-        i += 1;
     }
 }
 
@@ -59,24 +54,21 @@ pub fn equate(file: &[u8], a: usize, b: usize, out: &mut [u8]) -> Equated
     ensures { EquatePromise file.now a b out.old result out.new }
 {
     let read = casefile::read_case(file);
-    let verdict = read.verdict;
-    if let Verdict::Refused(number, place) = verdict {
+    if let Verdict::Refused(number, place) = read.verdict {
         return Equated::Refused(number, place);
     }
-    let t = read.table;
-    let n = t.count;
+    let n = read.table.count;
     if outside(n, a, b) {
         return Equated::Refused(5, n);
     }
     if out.len() < n {
         return Equated::Refused(9, n);
     }
-    let rep = classes::start(&t.words, n);
-    let joined = classes::unify(&t.words, n, rep, a as u8, b as u8);
+    let rep = classes::start(&read.table.words, n);
+    let joined = classes::unify(&read.table.words, n, rep, a as u8, b as u8);
     if !joined.ok {
         return Equated::No;
     }
-    let solved = joined.rep;
-    write_list(&t.words, solved, n, out);
+    write_list(&read.table.words, &joined.rep, n, out);
     Equated::Listed(n)
 }

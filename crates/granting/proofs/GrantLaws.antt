@@ -57,18 +57,11 @@ missing_kept (x ∷ xs) (y ∷ ys) l k = missing_step x y xs ys (k 0) (missing_k
 -- ---- rounds
 
 module _ {T : Table} {n : ℕ} {rep run : List ℕ} {p : ℕ} {s b s' b' : List ℕ} {ch : Bool} (t : Turned T n rep s b s' b' ch) where
-  pub rounded_turn : ch ≡ true → Rounded T n rep run p s b s' b' ch
-  rounded_turn e = record {
-    more = record { seen_marked = t.seen_marked; built_marked = t.built_marked; seen_kept = t.seen_kept; built_kept = t.built_kept };
-    still = λ i. absurd (true≢false (sym e ∙ i));
-    moved = t.moved;
-  }
-
   module _ (ls : length s ≡ 129) (ls' : length s' ≡ 129) (lb : length b ≡ 129) (lb' : length b' ≡ 129) {need b₂ : List ℕ} {ch₂ : Bool} (g : Granting T n rep need s' b' b₂ ch₂ n) where
-    pub rounded_grant : ch₂ ≡ true → Rounded T n rep run p s b s' b₂ true
+    pub rounded_grant : ch₂ ≡ true → Rounded T n rep run p s b s' b₂ ch₂
     rounded_grant i = record {
       more = record { seen_marked = t.seen_marked; built_marked = g.grown.marked; seen_kept = t.seen_kept; built_kept = λ c o. g.grown.kept c (t.built_kept c o) };
-      still = λ j. absurd (true≢false j);
+      still = λ j. absurd (true≢false (sym i ∙ j));
       moved = λ j. omega (arith, missing_kept s s' (ls ∙ sym ls') t.seen_kept, missing_kept b b' (lb ∙ sym lb') t.built_kept, g.grown.moved i);
     }
 

@@ -1,12 +1,10 @@
 -- What comes to light where a cell over a free class is equal to one that may be seen.
 -- Bright, Leaks: a part that is not yet seen; LeakTold: what is found at two cells; LeakingRow, Leaking: the sweeps;
 -- Tight: nothing more leaks; Leaked: all of it.
-use Rattle.std.specs.Prelude.{◌≡◌, ◌⊎◌, Bool, false, List, ℕ, ◌≤◌, ◌<◌}
+use Rattle.std.specs.Prelude.{◌≡◌, ◌⊎◌, Bool, false, List, ℕ, ◌≤◌, ◌<◌, Option, Some, None}
 use Rattle.model.specs.Case.{Table}
 use Rattle.theory.specs.Cells.{class_at, On}
 use Rattle.knowledge.specs.Sweeps.{left_class, right_class, Grown}
-use Rattle.wants.specs.declared.starts.Pick.{Pick}
-use Rattle.wants.specs.declared.starts.Pick.TheVariants as pick
 use Rattle.wants.specs.Sets.{HeldRow, OverRow}
 use Rattle.granting.specs.Meets.{May}
 
@@ -21,9 +19,9 @@ pub record Leaks (T : Table) (rep held seens : List ℕ) (c d : ℕ) : Type 0 wh
   pub part : Bright held seens (left_class T rep c) (left_class T rep d) ⊎ Bright held seens (right_class T rep c) (right_class T rep d)
 
 -- What is found at c and d: a class that is not yet seen, or that nothing leaks here.
-pub data LeakTold (T : Table) (rep held seens : List ℕ) (c d : ℕ) : Pick → Type 0 where
-  leak : {x : ℕ} → x ≤ 128 → class_at rep x ≡ x → (On seens x → ⊥) → LeakTold T rep held seens c d (pick.Mark x)
-  nothing : (Leaks T rep held seens c d → ⊥) → LeakTold T rep held seens c d pick.Nothing
+pub data LeakTold (T : Table) (rep held seens : List ℕ) (c d : ℕ) : Option ℕ → Type 0 where
+  leak : {x : ℕ} → x ≤ 128 → class_at rep x ≡ x → (On seens x → ⊥) → LeakTold T rep held seens c d (Some x)
+  nothing : (Leaks T rep held seens c d → ⊥) → LeakTold T rep held seens c d None
 
 -- A sweep over the cells d below `upto`, which takes the marks m of seen cells to r.
 pub record LeakingRow (T : Table) (rep held : List ℕ) (c : ℕ) (m r : List ℕ) (changed : Bool) (upto : ℕ) : Type 0 where

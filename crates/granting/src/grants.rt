@@ -25,61 +25,33 @@ pub struct Grant {
     pub costs: [u8; 129],
 }
 
-// The marks after a rule, and whether it added any.
-fn turn(seen: [u8; 129], built: [u8; 129], changed: bool) -> Turn
-    ensures { (result.seen ≡ seen) × ((result.built ≡ built) × (result.changed ≡ changed)) }
-{
-    Turn {
-        seen,
-        built,
-        changed,
-    }
-}
-
-// One round of the rules: the first of them that adds marks.
-fn round<'a>(
-    table: &'a Table,
-    n: usize,
-    rep: &'a [u8; 129],
-    run: &'a Run,
-    p: usize,
-    o: Marks,
-) -> Turn
+// One round of the rules: the first of them that adds marks. Did any?
+#[tactic(auto, using(knowledge::proofs::ClassRows::kept_row))]
+fn round(table: &Table, n: usize, rep: &[u8; 129], run: &Run, p: usize, marks: &mut Marks) -> bool
     requires table_words { TableWords n table.now }
     requires kept { Kept n (table_in table.now) rep.now }
     requires run_words { RunWords n run.now p }
-    requires mark_row { MarkRow rep.now o.seen }
-    requires mark_row_2 { MarkRow rep.now o.built }
-    ensures { Rounded (table_in table.now) n rep.now run.now p o.seen o.built result.seen result.built result.changed }
+    requires mark_row { MarkRow rep.now marks.old.seen }
+    requires mark_row_2 { MarkRow rep.now marks.old.built }
+    ensures { Rounded (table_in table.now) n rep.now run.now p marks.old.seen marks.old.built marks.new.seen marks.new.built result }
 {
-    let seen = o.seen;
-    let built = o.built;
-    let t = sweep(table, n, rep, seen, built);
-    if t.changed {
-        return t;
+    let Turn {
+        seen,
+        built,
+        changed,
+    } = sweep(table, n, rep, marks.seen, marks.built);
+    marks.seen = seen;
+    marks.built = built;
+    if changed {
+        return true;
     }
-    let s = t.seen;
-    let old = t.built;
-    let keys = needed(table, n, rep, &s, &old, [0; 129]);
-    let g = grant(table, n, rep, &keys, &s, old);
-    let b = g.marks;
-    if g.changed {
-        return turn(s, b, true);
-    }
-    let l = leaked(table, n, rep, run, p, s);
-    let more = l.marks;
-    turn(more, b, l.changed)
+    let keys = needed(table, n, rep, &marks.seen, &marks.built, [0; 129]);
+    grant(table, n, rep, &keys, &marks.seen, &mut marks.built)
+        || leaked(table, n, rep, run, p, &mut marks.seen)
 }
 
 // What may be seen and built before p, from marks on.
-fn closed<'a>(
-    table: &'a Table,
-    n: usize,
-    rep: &'a [u8; 129],
-    run: &'a Run,
-    p: usize,
-    o: Marks,
-) -> Marks
+fn closed(table: &Table, n: usize, rep: &[u8; 129], run: &Run, p: usize, o: Marks) -> Marks
     requires table_words { TableWords n table.now }
     requires kept { Kept n (table_in table.now) rep.now }
     requires run_words { RunWords n run.now p }
@@ -88,54 +60,26 @@ fn closed<'a>(
     ensures { Grants (table_in table.now) n rep.now run.now p o.seen o.built result.seen result.built }
 {
     let mut m = o;
-    loop {
-        let t = round(table, n, rep, run, p, m);
-        let s = t.seen;
-        let b = t.built;
-        m = Marks { seen: s, built: b };
-        if !t.changed {
-            return m;
-        }
-    }
+    while round(table, n, rep, run, p, &mut m) {}
+    m
 }
 
 // Is no free class seen?
-fn is_calm<'a>(table: &'a Table, n: usize, seen: &'a [u8; 129]) -> bool
+fn is_calm(table: &Table, n: usize, seen: &[u8; 129]) -> bool
     requires { n ≤ 128 }
     ensures { result ≡ true → (c : ℕ) → c < n → FreeAt (table_in table.now) seen.now c → ⊥ }
 {
-    let mut c = 0;
-    while c < n {
-        if free_at(table, seen, c) {
-            return false;
-        }
-        c += 1;
-    }
-    true
+    (0..n).all(|c| !free_at(table, seen, c))
 }
 
 // A guide: the costs before any is known: 254 of what is built, 255 of the rest.
 fn start_costs(built: &[u8; 129]) -> [u8; 129] {
-    let mut costs = [255; 129];
-    let mut c = 0;
-    while c < 129 {
-        if built[c] == 1 {
-            costs[c] = 254;
-        }
-        c += 1;
-    }
-    costs
+    built.map(|mark| if mark == 1 { 254 } else { 255 })
 }
 
 // What is granted before p, from what was granted before.
-pub fn granted<'a>(
-    table: &'a Table,
-    n: usize,
-    rep: &'a [u8; 129],
-    run: &'a Run,
-    p: usize,
-    g: Grant,
-) -> Grant
+#[tactic(auto, using(knowledge::proofs::ClassRows::kept_row))]
+pub fn granted(table: &Table, n: usize, rep: &[u8; 129], run: &Run, p: usize, g: Grant) -> Grant
     requires table_words { TableWords n table.now }
     requires kept { Kept n (table_in table.now) rep.now }
     requires run_words { RunWords n run.now p }
@@ -147,17 +91,13 @@ pub fn granted<'a>(
     if g.calm {
         return g;
     }
-    let seen = g.seen;
-    let built = g.built;
-    let o = Marks { seen, built };
-    let m = closed(table, n, rep, run, p, o);
-    let s = m.seen;
-    let b = m.built;
+    let Grant { seen, built, .. } = g;
+    let Marks { seen, built } = closed(table, n, rep, run, p, Marks { seen, built });
     Grant {
-        calm: is_calm(table, n, &s),
-        seen: s,
-        built: b,
-        bare: bares(table, n, rep, &s, &b),
-        costs: start_costs(&b),
+        calm: is_calm(table, n, &seen),
+        bare: bares(table, n, rep, &seen, &built),
+        costs: start_costs(&built),
+        seen,
+        built,
     }
 }

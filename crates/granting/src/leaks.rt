@@ -11,19 +11,16 @@ ghost use Rattle.granting.specs.Leaks.{Bright, LeakTold, LeakingRow, Leaking, Le
 use super::meets::may;
 use cells::{Run, Table, kin_at};
 use knowledge::Ends;
+use wants::ends;
 use wants::sets::{holds, over};
-use wants::{Pick, Swept, ends};
 
 // Does y come to light, in the place of x?
-fn bright<'a>(held: &'a [u8; 129], seen: &'a [u8; 129], x: usize, y: usize) -> bool
+fn bright(held: &[u8; 129], seen: &[u8; 129], x: usize, y: usize) -> bool
     requires x_bound { x ≤ 128 }
     requires y_bound { y ≤ 128 }
     ensures { Decides result (Bright held.now seen.now x y) }
 {
-    if held[x] != 1 {
-        return false;
-    }
-    seen[y] != 1
+    held[x] == 1 && seen[y] != 1
 }
 
 // The cells c and d, and the classes of the parts of c.
@@ -35,14 +32,15 @@ struct Against {
 }
 
 // A part of d that comes to light if c is equal to d.
-fn leak_at<'a>(
-    table: &'a Table,
+#[tactic(auto, using(knowledge::proofs::ClassRows::kept_row))]
+fn leak_at(
+    table: &Table,
     n: usize,
-    rep: &'a [u8; 129],
-    held: &'a [u8; 129],
-    seen: &'a [u8; 129],
+    rep: &[u8; 129],
+    held: &[u8; 129],
+    seen: &[u8; 129],
     at: Against,
-) -> Pick
+) -> Option<usize>
     requires table_words { TableWords n table.now }
     requires kept { Kept n (table_in table.now) rep.now }
     requires c_lt_n { at.c < n }
@@ -50,111 +48,89 @@ fn leak_at<'a>(
     requires ends_at { EndsAt (table_in table.now) rep.now at.c at.ends.left at.ends.right }
     ensures { LeakTold (table_in table.now) rep.now held.now seen.now at.c at.d result }
 {
-    let c = at.c;
-    let d = at.d;
-    if seen[d] != 1 {
-        return Pick::Nothing;
+    if seen[at.d] != 1 {
+        return None;
     }
-    let e = at.ends;
-    let f = ends(table, n, rep, d);
-    if bright(held, seen, e.left, f.left) {
-        if may(table, n, rep, seen, c, d) {
-            return Pick::Mark(f.left);
-        }
-        return Pick::Nothing;
-    }
-    if !bright(held, seen, e.right, f.right) {
-        return Pick::Nothing;
-    }
-    if may(table, n, rep, seen, c, d) {
-        return Pick::Mark(f.right);
-    }
-    Pick::Nothing
+    let f = ends(table, n, rep, at.d);
+    let x = if bright(held, seen, at.ends.left, f.left) {
+        f.left
+    } else if bright(held, seen, at.ends.right, f.right) {
+        f.right
+    } else {
+        return None;
+    };
+    may(table, n, rep, seen, at.c, at.d).then_some(x)
 }
 
-// Marks what comes to light of the cells that may be equal to c.
-fn leak_row<'a>(
-    table: &'a Table,
+// Marks as seen what comes to light of the cells that may be equal to c. Was any marked?
+#[tactic(auto, using(knowledge::proofs::ClassRows::kept_row))]
+fn leak_row(
+    table: &Table,
     n: usize,
-    rep: &'a [u8; 129],
-    held: &'a [u8; 129],
-    start: [u8; 129],
+    rep: &[u8; 129],
+    held: &[u8; 129],
+    seen: &mut [u8; 129],
     c: usize,
-) -> Swept
+) -> bool
     requires table_words { TableWords n table.now }
     requires kept { Kept n (table_in table.now) rep.now }
-    requires mark_row { MarkRow rep.now start }
+    requires mark_row { MarkRow rep.now seen.old }
     requires c_lt_n { c < n }
-    ensures { LeakingRow (table_in table.now) rep.now held.now c start result.marks result.changed n }
+    ensures { LeakingRow (table_in table.now) rep.now held.now c seen.old seen.new result n }
 {
     if !kin_at(table, c, c) {
-        return Swept {
-            marks: start,
-            changed: false,
-        };
+        return false;
     }
-    let mut m = start;
+    let ends = ends(table, n, rep, c);
     let mut changed = false;
-    let e = ends(table, n, rep, c);
-    let mut d = 0;
-    while d < n {
-        let at = Against { c, ends: e, d };
-        let p = leak_at(table, n, rep, held, &m, at);
-        if let Pick::Mark(x) = p {
-            m[x] = 1;
+    for d in 0..n {
+        if let Some(x) = leak_at(table, n, rep, held, seen, Against { c, ends, d }) {
+            seen[x] = 1;
             changed = true;
         }
-        d += 1;
     }
-    Swept { marks: m, changed }
+    changed
 }
 
 // The same for the first cell of `over` where something comes to light.
-fn leak<'a>(
-    table: &'a Table,
+fn leak(
+    table: &Table,
     n: usize,
-    rep: &'a [u8; 129],
-    held: &'a [u8; 129],
-    over: &'a [u8; 129],
-    start: [u8; 129],
-) -> Swept
+    rep: &[u8; 129],
+    held: &[u8; 129],
+    over: &[u8; 129],
+    seen: &mut [u8; 129],
+) -> bool
     requires table_words { TableWords n table.now }
     requires kept { Kept n (table_in table.now) rep.now }
-    requires mark_row { MarkRow rep.now start }
-    ensures { Leaking (table_in table.now) n rep.now held.now over.now start result.marks result.changed }
+    requires mark_row { MarkRow rep.now seen.old }
+    ensures { Leaking (table_in table.now) n rep.now held.now over.now seen.old seen.new result }
 {
-    let mut c = 0;
-    while c < n {
-        if over[c] == 1 {
-            let s = leak_row(table, n, rep, held, start, c);
-            if s.changed {
-                return s;
-            }
+    for c in 0..n {
+        if over[c] == 1 && leak_row(table, n, rep, held, seen, c) {
+            return true;
         }
-        c += 1;
     }
-    Swept {
-        marks: start,
-        changed: false,
-    }
+    false
 }
 
-// Marks what comes to light before p.
-pub fn leaked<'a>(
-    table: &'a Table,
+// Marks as seen what comes to light before p. Was any marked?
+#[tactic(auto, using(knowledge::proofs::ClassRows::kept_row))]
+pub fn leaked(
+    table: &Table,
     n: usize,
-    rep: &'a [u8; 129],
-    run: &'a Run,
+    rep: &[u8; 129],
+    run: &Run,
     p: usize,
-    start: [u8; 129],
-) -> Swept
+    seen: &mut [u8; 129],
+) -> bool
     requires table_words { TableWords n table.now }
     requires kept { Kept n (table_in table.now) rep.now }
     requires run_words { RunWords n run.now p }
-    requires mark_row { MarkRow rep.now start }
-    ensures { Leaked (table_in table.now) n rep.now run.now p start result.marks result.changed }
+    requires mark_row { MarkRow rep.now seen.old }
+    ensures { Leaked (table_in table.now) n rep.now run.now p seen.old seen.new result }
 {
-    let held = holds(table, n, rep, &start);
+    let held = holds(table, n, rep, seen);
     let top = over(table, n, rep, &held, run, p);
-    leak(table, n, rep, &held, &top, start)
+    leak(table, n, rep, &held, &top, seen)
 }

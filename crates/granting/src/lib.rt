@@ -9,7 +9,7 @@ pub mod line;
 mod meets;
 
 // Two cells of which one may be made equal to the other: a place among the pairs, row by row.
-#[derive(Clone, Copy)]
+#[derive(Clone, Copy, Debug, PartialEq, Eq)]
 pub struct Place {
     pub c: usize,
     pub d: usize,

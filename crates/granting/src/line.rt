@@ -1,83 +1,48 @@
 // Ways down from what is to be made, part by part, through cells that are not built.
-ghost use Rattle.std.specs.Prelude.{◌≡◌, ◌<◌};
+ghost use Rattle.std.specs.Prelude.{ℕ, ◌<◌, ◌≤◌};
 ghost use Rattle.model.specs.Stored.{table_in};
 ghost use Rattle.theory.specs.Cells.{TableWords};
 ghost use Rattle.classes.specs.Kept.{Kept};
 ghost use Rattle.granting.specs.Line.{Whole, Lacking, Below, LineRow};
 
 use super::grants::Grant;
-use cells::{Table, kin_at};
-use classes::clash::clash;
-use classes::class_of;
+use super::meets::near;
+use cells::Table;
 use wants::ends;
 
-// A guide: is d bare, of the kind of c and of another class, and is there no clash at once?
-fn near<'a>(
-    table: &'a Table,
-    n: usize,
-    rep: &'a [u8; 129],
-    bare: &'a [u8; 129],
-    c: usize,
-    d: usize,
-) -> bool
-    requires table_words { TableWords n table.now }
-    requires kept { Kept n (table_in table.now) rep.now }
-    requires c_lt_n { c < n }
-    requires d_lt_n { d < n }
-{
-    if bare[d] != 1 {
-        return false;
-    }
-    if !kin_at(table, c, d) {
-        return false;
-    }
-    if class_of(rep, c) == class_of(rep, d) {
-        return false;
-    }
-    !clash(table, n, rep, c as u8, d as u8, 3)
-}
-
-// A guide: the number of bare cells that c may be equal to, added to `before`, up to 254.
-fn live_row<'a>(
-    table: &'a Table,
-    n: usize,
-    rep: &'a [u8; 129],
-    bare: &'a [u8; 129],
-    c: usize,
-    before: u8,
-) -> u8
-    requires table_words { TableWords n table.now }
-    requires kept { Kept n (table_in table.now) rep.now }
-    requires c_lt_n { c < n }
+// A guide: the number of cells below n that are live, added to `before`, up to 254.
+pub fn live_row<F: Fn(usize) -> bool>(n: usize, before: u8, live: F) -> u8
+    requires { (d : ℕ) → d < n → F.pre live d }
+    ensures more { before ≤ result }
+    ensures most { before ≤ 254 → result ≤ 254 }
 {
     let mut k = before;
-    let mut d = 0;
-    while d < n {
+    for d in 0..n {
         if 254 <= k {
             return k;
         }
-        if near(table, n, rep, bare, c, d) {
+        if live(d) {
             k += 1;
         }
-        d += 1;
     }
     k
 }
 
 // A cell, and how many levels down from it are still looked at.
-#[derive(Clone, Copy)]
+#[derive(Clone, Copy, Debug, PartialEq, Eq)]
 struct Depth {
     pub cell: usize,
     pub levels: usize,
 }
 
 // A guide: how many pairs the best way down from c leaves to try, at most 254. In `costs` it is 255 where it is not known yet.
-fn cost<'a, 'b>(
-    table: &'a Table,
+#[tactic(auto, using(knowledge::proofs::ClassRows::kept_row))]
+fn cost(
+    table: &Table,
     n: usize,
-    rep: &'a [u8; 129],
-    bare: &'a [u8; 129],
-    costs: &'b mut [u8; 129],
+    rep: &[u8; 129],
+    bare: &[u8; 129],
+    costs: &mut [u8; 129],
     at: Depth,
 ) -> u8
     requires table_words { TableWords n table.now }
@@ -91,39 +56,38 @@ fn cost<'a, 'b>(
     if at.levels == 0 {
         return 254;
     }
-    let below = at.levels - 1;
+    let levels = at.levels - 1;
     let e = ends(table, n, rep, c);
     if e.right == c {
         costs[c] = 0;
         return 0;
     }
-    let r = cost(table, n, rep, bare, costs, down(e.right, below));
-    let mut s = r;
-    if r != 0 {
-        let l = cost(table, n, rep, bare, costs, down(e.left, below));
-        if l < r {
-            s = l;
-        }
-    }
-    let k = live_row(table, n, rep, bare, c, s);
-    costs[c] = k;
-    k
-}
-
-// The cell c, with so many levels below it.
-fn down(c: usize, levels: usize) -> Depth
-    ensures { (result.cell ≡ c) × (result.levels ≡ levels) }
-{
-    Depth { cell: c, levels }
+    let right = Depth {
+        cell: e.right,
+        levels,
+    };
+    let left = Depth {
+        cell: e.left,
+        levels,
+    };
+    let r = cost(table, n, rep, bare, costs, right);
+    let s = if r == 0 {
+        0
+    } else {
+        r.min(cost(table, n, rep, bare, costs, left))
+    };
+    costs[c] = live_row(n, s, |d| near(table, n, rep, bare, c, d));
+    costs[c]
 }
 
 // A class of the parts of c that is not built: the one with the better way. For a cell without parts, its own.
-fn next<'a>(
-    table: &'a Table,
+#[tactic(auto, using(knowledge::proofs::ClassRows::kept_row))]
+fn next(
+    table: &Table,
     n: usize,
-    rep: &'a [u8; 129],
-    built: &'a [u8; 129],
-    costs: &'a [u8; 129],
+    rep: &[u8; 129],
+    built: &[u8; 129],
+    costs: &[u8; 129],
     c: usize,
 ) -> usize
     requires table_words { TableWords n table.now }
@@ -135,25 +99,20 @@ fn next<'a>(
     let e = ends(table, n, rep, c);
     let a = e.left;
     let b = e.right;
-    if built[b] == 1 {
-        return a;
+    if built[b] == 1 || (built[a] != 1 && costs[a] < costs[b]) {
+        a
+    } else {
+        b
     }
-    if built[a] == 1 {
-        return b;
-    }
-    if costs[a] < costs[b] {
-        return a;
-    }
-    b
 }
 
 // The cells of a way down from c, which is not built.
-fn way<'a>(
-    table: &'a Table,
+fn way(
+    table: &Table,
     n: usize,
-    rep: &'a [u8; 129],
-    built: &'a [u8; 129],
-    costs: &'a [u8; 129],
+    rep: &[u8; 129],
+    built: &[u8; 129],
+    costs: &[u8; 129],
     goal: usize,
 ) -> [u8; 129]
     requires table_words { TableWords n table.now }
@@ -182,12 +141,12 @@ pub struct Lined {
 }
 
 // The best way down from the class c, which is not built; the costs that are worked out for it are kept.
-pub fn line<'a, 'b>(
-    table: &'a Table,
+pub fn line(
+    table: &Table,
     n: usize,
-    rep: &'a [u8; 129],
+    rep: &[u8; 129],
     g: Grant,
-    costs: &'b mut [u8; 129],
+    costs: &mut [u8; 129],
     c: usize,
 ) -> Lined
     requires table_words { TableWords n table.now }
@@ -196,7 +155,9 @@ pub fn line<'a, 'b>(
     requires lacking { Lacking n rep.now g.built c }
     ensures { LineRow (table_in table.now) rep.now g.built c result.cells }
 {
-    let k = cost(table, n, rep, &g.bare, &mut *costs, down(c, n));
-    let m = way(table, n, rep, &g.built, &*costs, c);
-    Lined { pairs: k, cells: m }
+    let from = Depth { cell: c, levels: n };
+    Lined {
+        pairs: cost(table, n, rep, &g.bare, costs, from),
+        cells: way(table, n, rep, &g.built, costs, c),
+    }
 }

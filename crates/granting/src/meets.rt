@@ -10,96 +10,71 @@ ghost use Rattle.granting.specs.Meets.{May, Alone, Granting};
 use cells::{Table, kin_at};
 use classes::clash::clash;
 use classes::{class_of, unify};
-use wants::Swept;
+
+// Is d one of the row `marks`, of the kind of c and of another class, and is there no clash at once? If not, c may not be equal to such a d.
+pub fn near(table: &Table, n: usize, rep: &[u8; 129], marks: &[u8; 129], c: usize, d: usize) -> bool
+    requires table_words { TableWords n table.now }
+    requires kept { Kept n (table_in table.now) rep.now }
+    requires c_lt_n { c < n }
+    requires d_lt_n { d < n }
+    ensures { result ≡ false → On marks.now d → May (table_in table.now) rep.now c d → ⊥ }
+{
+    marks[d] == 1
+        && kin_at(table, c, d)
+        && class_of(rep, c) != class_of(rep, d)
+        && !clash(table, n, rep, c as u8, d as u8, 3)
+}
 
 // May c be equal to d, which is seen? If not, it is not.
-pub fn may<'a>(
-    table: &'a Table,
-    n: usize,
-    rep: &'a [u8; 129],
-    seen: &'a [u8; 129],
-    c: usize,
-    d: usize,
-) -> bool
+pub fn may(table: &Table, n: usize, rep: &[u8; 129], seen: &[u8; 129], c: usize, d: usize) -> bool
     requires table_words { TableWords n table.now }
     requires kept { Kept n (table_in table.now) rep.now }
     requires c_lt_n { c < n }
     requires d_lt_n { d < n }
     ensures { result ≡ false → On seen.now d → May (table_in table.now) rep.now c d → ⊥ }
 {
-    if seen[d] != 1 {
-        return false;
-    }
-    if !kin_at(table, c, d) {
-        return false;
-    }
-    if class_of(rep, c) == class_of(rep, d) {
-        return false;
-    }
-    if clash(table, n, rep, c as u8, d as u8, 3) {
-        return false;
-    }
-    let u = unify(table, n, *rep, c as u8, d as u8);
-    u.ok
+    near(table, n, rep, seen, c, d) && unify(table, n, *rep, c as u8, d as u8).ok
 }
 
 // May c be equal to a cell that is seen? If not, it is not.
-fn meets<'a>(table: &'a Table, n: usize, rep: &'a [u8; 129], seen: &'a [u8; 129], c: usize) -> bool
+fn meets(table: &Table, n: usize, rep: &[u8; 129], seen: &[u8; 129], c: usize) -> bool
     requires table_words { TableWords n table.now }
     requires kept { Kept n (table_in table.now) rep.now }
     requires c_lt_n { c < n }
     ensures { result ≡ false → Alone (table_in table.now) rep.now seen.now c n }
 {
-    if !kin_at(table, c, c) {
-        return false;
-    }
-    let mut d = 0;
-    while d < n {
-        if may(table, n, rep, seen, c, d) {
-            return true;
-        }
-        d += 1;
-    }
-    false
+    kin_at(table, c, c) && (0..n).any(|d| may(table, n, rep, seen, c, d))
 }
 
 // Is c one of the row `keys` that is not built?
-fn lacks<'a>(keys: &'a [u8; 129], built: &'a [u8; 129], c: usize) -> bool
+fn lacks(keys: &[u8; 129], built: &[u8; 129], c: usize) -> bool
     requires { c < 128 }
     ensures { Decides result (On keys.now c × (On built.now c → ⊥)) }
 {
-    if keys[c] != 1 {
-        return false;
-    }
-    built[c] != 1
+    keys[c] == 1 && built[c] != 1
 }
 
-// Marks as built the cells of the row `keys` that may be equal to a cell that is seen.
-pub fn grant<'a>(
-    table: &'a Table,
+// Marks as built the cells of the row `keys` that may be equal to a cell that is seen. Was any marked?
+pub fn grant(
+    table: &Table,
     n: usize,
-    rep: &'a [u8; 129],
-    keys: &'a [u8; 129],
-    seen: &'a [u8; 129],
-    start: [u8; 129],
-) -> Swept
+    rep: &[u8; 129],
+    keys: &[u8; 129],
+    seen: &[u8; 129],
+    built: &mut [u8; 129],
+) -> bool
     requires table_words { TableWords n table.now }
     requires kept { Kept n (table_in table.now) rep.now }
     requires mark_row { MarkRow rep.now keys.now }
-    requires mark_row_2 { MarkRow rep.now start }
-    ensures { Granting (table_in table.now) n rep.now keys.now seen.now start result.marks result.changed n }
+    requires mark_row_2 { MarkRow rep.now built.old }
+    ensures { Granting (table_in table.now) n rep.now keys.now seen.now built.old built.new result n }
 {
-    let mut m = start;
     let mut changed = false;
-    let mut c = 0;
-    while c < n {
-        if lacks(keys, &m, c) {
-            if meets(table, n, rep, seen, c) {
-                m[c] = 1;
-                changed = true;
-            }
+    for c in 0..n {
+        if lacks(keys, built, c) && meets(table, n, rep, seen, c) {
+            built[c] = 1;
+            changed = true;
         }
-        c += 1;
     }
-    Swept { marks: m, changed }
+    changed
 }

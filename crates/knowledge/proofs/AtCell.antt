@@ -1,19 +1,15 @@
 -- What is found at one cell.
 use mathlib.Core.Path.{◌≡◌, sym, ◌∙◌, ap, subst}
-use mathlib.Core.Bool.{Bool, true}
+use mathlib.Core.Bool.{Bool}
 use mathlib.Core.List.{List}
 use Prim.Native.Nat.{ℕ, ◌≤◌, ◌<◌}
 use native.Mathlib.Omega.{arith}
-use Rattle.model.proofs.Read.{clash}
 use Rattle.model.specs.Case.{Cell, Table, Part}
 use Rattle.model.specs.Stored.{table_in}
 use Rattle.theory.specs.Cells.{TableWords, class_at, On}
 use Rattle.theory.specs.Decides.{Decides}
-use Rattle.theory.proofs.Decides.{decides_yes, decides_iff}
-use Rattle.knowledge.specs.declared.Shown.{Shown}
-use Rattle.knowledge.specs.declared.Shown.TheVariants.{Parts, Nothing}
-use Rattle.knowledge.specs.Knowledge.{ClassRow}
-use Rattle.knowledge.specs.Sweeps.{left_part, right_part, left_class, right_class, Given, MadeBy, Gives, Adds, Newly, Shows, Finds}
+use Rattle.theory.proofs.Decides.{decides_iff}
+use Rattle.knowledge.specs.Sweeps.{left_part, right_part, left_class, right_class, Given, MadeBy, Gives, Adds, Newly, Shows}
 use Rattle.knowledge.proofs.ByKind.{left_low, right_low}
 
 -- The parts of a cell are cells.
@@ -29,9 +25,6 @@ module _ {n : ℕ} {words : List ℕ} (w : TableWords n words) (c : ℕ) (h : c 
 
 -- Is c to be marked as built? It stands for its class and is not marked, and its cell k decides.
 module _ (T : Table) (rep seens builts : List ℕ) (c : ℕ) {k : Cell} (e : k ≡ T c) (s : class_at rep c ≡ c) (n : On builts c → ⊥) where
-  pub newly_given : Given k → Decides true (Newly T rep seens builts c)
-  newly_given g = decides_yes (record { stands = s; new = n; adds = Adds.given (subst Given e g) })
-
   pub newly_made : {r : Bool} → (On seens c → ⊥) → (Given k → ⊥) → Decides r (MadeBy k rep builts) → Decides r (Newly T rep seens builts c)
   newly_made u v d = decides_iff d (λ m. record { stands = s; new = n; adds = Adds.made (subst (λ j. MadeBy j rep builts) e m) }) (λ w. only w.adds)
     where
@@ -42,8 +35,8 @@ module _ (T : Table) (rep seens builts : List ℕ) (c : ℕ) {k : Cell} (e : k �
 
 -- The classes of the parts of c, where they are newly seen: its cell k decides.
 module _ (T : Table) (rep seens builts : List ℕ) (c : ℕ) {k : Cell} (e : k ≡ T c) where
-  pub shows_mute : (Gives k rep builts → ⊥) → Finds T rep seens builts c Nothing
-  shows_mute n = Finds.nothing (λ w. n (subst (λ j. Gives j rep builts) (sym e) w.gives))
+  pub shows_mute : (Gives k rep builts → ⊥) → Shows T rep seens builts c → ⊥
+  shows_mute n w = n (subst (λ j. Gives j rep builts) (sym e) w.gives)
 
   module _ {a b : ℕ} (l : a ≡ class_at rep (left_part k c)) (r : b ≡ class_at rep (right_part k c)) where
     left_class_lem : a ≡ left_class T rep c
@@ -52,31 +45,18 @@ module _ (T : Table) (rep seens builts : List ℕ) (c : ℕ) {k : Cell} (e : k �
     right_class_lem : b ≡ right_class T rep c
     right_class_lem = r ∙ ap (λ j. class_at rep (right_part j c)) e
 
-    pub shows_old : On seens a → On seens b → Finds T rep seens builts c Nothing
-    shows_old x y = Finds.nothing (λ w. w.new (subst (On seens) left_class_lem x) (subst (On seens) right_class_lem y))
+    pub shows_old : On seens a → On seens b → Shows T rep seens builts c → ⊥
+    shows_old x y w = w.new (subst (On seens) left_class_lem x) (subst (On seens) right_class_lem y)
 
-    pub shows_new : class_at rep c ≡ c → On seens c → Gives k rep builts → (On seens a → On seens b → ⊥) → Finds T rep seens builts c (Parts a b)
-    shows_new s h g n = rw (left_class_lem, right_class_lem) (Finds.parts (record {
-      stands = s;
-      whole = h;
-      gives = subst (λ j. Gives j rep builts) e g;
-      new = λ x y. n (subst (On seens) (sym left_class_lem) x) (subst (On seens) (sym right_class_lem) y);
-    }))
-
--- What is found is what a seen cell newly gives.
-pub found_parts : {T : Table} {rep seens builts : List ℕ} {c a b : ℕ} {p : Shown} → Finds T rep seens builts c p → p ≡ Parts a b →
-    (a ≡ left_class T rep c) × (b ≡ right_class T rep c) × Shows T rep seens builts c
-found_parts (Finds.parts w) e = (cc, cc, w)
-found_parts (Finds.nothing n) e = clash (cc)
-
-pub found_nothing : {T : Table} {rep seens builts : List ℕ} {c : ℕ} {p : Shown} → Finds T rep seens builts c p → p ≡ Nothing → Shows T rep seens builts c → ⊥
-found_nothing (Finds.parts w) e = clash (cc)
-found_nothing (Finds.nothing n) e = n
-
--- The cells that stand for the classes of the parts have marks.
-module _ {n : ℕ} {rep : List ℕ} (w : ClassRow n rep) (T : Table) (c : ℕ) {a : ℕ} where
-  pub left_end : a ≡ left_class T rep c → a < 129
-  left_end e = omega (arith, w.low (left_part (T c) c))
-
-  pub right_end : a ≡ right_class T rep c → a < 129
-  right_end e = omega (arith, w.low (right_part (T c) c))
+    pub shows_new : class_at rep c ≡ c → On seens c → Gives k rep builts → (On seens a → On seens b → ⊥) →
+        (a ≡ left_class T rep c) × (b ≡ right_class T rep c) × Shows T rep seens builts c
+    shows_new s h g n = (
+      left_class_lem,
+      right_class_lem,
+      record {
+        stands = s;
+        whole = h;
+        gives = subst (λ j. Gives j rep builts) e g;
+        new = λ x y. n (subst (On seens) (sym left_class_lem) x) (subst (On seens) (sym right_class_lem) y);
+      },
+    )

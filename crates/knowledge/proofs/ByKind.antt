@@ -13,7 +13,7 @@ use Rattle.theory.specs.Cells.{Makes, class_at, On}
 use Rattle.theory.specs.Decides.{Decides}
 use Rattle.theory.proofs.Decides.{decides_yes, decides_no, decides_eqb, decides_iff}
 use Rattle.theory.proofs.Parts.{makes_parts, makes_one}
-use Rattle.cells.specs.Cells.{as_cell, parts_of, MadeOf, Opens, none, one, two, shut, open_pair, locked}
+use Rattle.cells.specs.Cells.{as_cell, MadeOf, Opens, one, two, shut, open_pair, locked}
 use Rattle.cells.specs.declared.Cell.{Cell}
 use Rattle.cells.specs.declared.Cell.TheVariants as cell
 use Rattle.cells.specs.declared.Parts.{Parts}
@@ -36,25 +36,6 @@ right_low VA c low = omega arith
 right_low (ONE g a) c low = omega (arith, low a in_arg)
 right_low (TWO h l r) c low = omega (arith, low r in_right)
 
--- The parts of a cell, where it has none, one or two.
-pub ends_none : (k : case.Cell) (c : ℕ) → parts.None ≡ parts_of k → (c ≡ left_part k c) × (c ≡ right_part k c)
-ends_none (AT n) c e = (refl, refl)
-ends_none VA c e = (refl, refl)
-ends_none (ONE g a) c e = clash (cc)
-ends_none (TWO h l r) c e = clash (cc)
-
-pub ends_one : (k : case.Cell) (c : ℕ) {x : ℕ} → parts.One x ≡ parts_of k → (x ≡ left_part k c) × (x ≡ right_part k c)
-ends_one (AT n) c e = clash (cc)
-ends_one VA c e = clash (cc)
-ends_one (ONE g a) c e = (cc, cc)
-ends_one (TWO h l r) c e = clash (cc)
-
-pub ends_two : (k : case.Cell) (c : ℕ) {x y : ℕ} → parts.Two x y ≡ parts_of k → (x ≡ left_part k c) × (y ≡ right_part k c)
-ends_two (AT n) c e = clash (cc)
-ends_two VA c e = clash (cc)
-ends_two (ONE g a) c e = clash (cc)
-ends_two (TWO h l r) c e = (cc, cc)
-
 -- What makes a cell are its parts, and it has no others.
 pub makes_ends : {k : case.Cell} {i j : ℕ} (c : ℕ) → Makes k i j → (left_part k c ≡ i) × (right_part k c ≡ j)
 makes_ends c (Makes.ones s) = (refl, refl)
@@ -76,15 +57,6 @@ module _ {k : Cell} where
 
   pub given_variable : k ≡ cell.Variable → Decides true (Given (as_cell k))
   given_variable e = rw e (decides_yes Given.free)
-
-  pub given_pair : {l r : ℕ} → k ≡ cell.Pair l r → Decides false (Given (as_cell k))
-  given_pair e = rw e (decides_no λ g. elim g [ ])
-
-  pub given_seal : {b c : ℕ} → k ≡ cell.Seal b c → Decides false (Given (as_cell k))
-  given_seal e = rw e (decides_no λ g. elim g [ ])
-
-  pub given_apply : {f a : ℕ} → k ≡ cell.Apply f a → Decides false (Given (as_cell k))
-  given_apply e = rw e (decides_no λ g. elim g [ ])
 
 -- ---- is it made, and does it give its parts?
 
@@ -125,12 +97,6 @@ module _ {k : case.Cell} {rep builts : List ℕ} where
       (subst (λ d. On builts (class_at rep d)) e x, subst (λ d. On builts (class_at rep d)) f y)
 
   module _ {p : Parts} (w : MadeOf k p) where
-    pub made_none : p ≡ parts.None → Decides false (MadeBy k rep builts)
-    made_none e = decides_no (go (subst (MadeOf k) e w))
-      where
-        go : MadeOf k parts.None → MadeBy k rep builts → ⊥
-        go (none n) (MadeBy.makes m x y) = n _ _ m
-
     pub made_one : {a : ℕ} {r : Bool} → p ≡ parts.One a → Decides r (On builts (class_at rep a)) → Decides r (MadeBy k rep builts)
     made_one e d = let m = one_makes w e in decides_iff d (λ x. MadeBy.makes m x x) (λ y. (made_both m y).0)
 

@@ -1,7 +1,7 @@
--- Two sweeps in turn, and that marks at which they change nothing are exactly what is seen and built.
+-- Marks on the way, and that marks at which two sweeps in turn change nothing are exactly what is seen and built.
 use mathlib.Core.Path.{◌≡◌, refl, sym, ◌∙◌, ap, subst}
 use mathlib.Core.Logic.{◌⊎◌, inl, inr, ◌↔◌}
-use mathlib.Core.Bool.{Bool, true, false, true≢false}
+use mathlib.Core.Bool.{Bool, false}
 use mathlib.Core.List.{List}
 use Prim.Native.Nat.{ℕ, ◌≤◌, ◌<◌}
 use native.Mathlib.Omega.{arith}
@@ -14,39 +14,9 @@ use Rattle.theory.specs.Sweep.{Swept}
 use Rattle.theory.proofs.Parts.{opening_part}
 use Rattle.theory.proofs.Sweep.{On as sideOn, mark_exact}
 use Rattle.knowledge.specs.Knowledge.{ClassRow, MarkRow, Starts, Opened}
-use Rattle.knowledge.specs.Sweeps.{left_class, right_class, Given, MadeBy, Gives, Adds, Newly, Shows, SeenOnly, BuiltOnly, Rising, Falling, Turned, OwnMarks}
+use Rattle.knowledge.specs.Sweeps.{left_class, right_class, Given, MadeBy, Gives, Adds, Newly, Shows, SeenOnly, BuiltOnly, Turned, OwnMarks}
 use Rattle.knowledge.proofs.ByKind.{part_ends}
 use Rattle.theory.proofs.MarkRows.{on?}
-
--- ---- two sweeps
-
-module _ {T : Table} {n : ℕ} {rep s b s' b' : List ℕ} {up down : Bool} (x : Rising T rep s b b' up n) (y : Falling T rep b' s s' down n 0) where
-  seen_sound : (ev : Run) (p : ℕ) → SeenOnly T rep ev p s → BuiltOnly T rep ev p b → SeenOnly T rep ev p s'
-  seen_sound ev p u v = y.sound ev p u (x.sound ev p u v)
-
-  pub turned_up : up ≡ true → Turned T n rep s b s' b' true
-  turned_up e = record {
-    seen_marked = y.grown.marked;
-    built_marked = x.grown.marked;
-    seen_kept = y.grown.kept;
-    built_kept = x.grown.kept;
-    seen_sound = seen_sound;
-    built_sound = x.sound;
-    still = λ f. absurd (true≢false f);
-    moved = λ f. omega (arith, x.grown.moved e, y.grown.down);
-  }
-
-  pub turned_down : up ≡ false → Turned T n rep s b s' b' down
-  turned_down e = record {
-    seen_marked = y.grown.marked;
-    built_marked = x.grown.marked;
-    seen_kept = y.grown.kept;
-    built_kept = x.grown.kept;
-    seen_sound = seen_sound;
-    built_sound = x.sound;
-    still = λ f c h. (λ z. x.still e c h (subst (λ r. Newly T rep r b' c) (y.grown.same f) z), λ z. y.still f c (omega arith) h z);
-    moved = λ f. omega (arith, x.grown.down, y.grown.moved f);
-  }
 
 -- ---- the marks on the way
 
@@ -58,16 +28,6 @@ pub record Between (T : Table) (rep s₀ b₀ s b : List ℕ) : Type 0 where
   pub built_kept : (c : ℕ) → On b₀ c → On b c
   pub seen_sound : (ev : Run) (p : ℕ) → SeenOnly T rep ev p s₀ → BuiltOnly T rep ev p b₀ → SeenOnly T rep ev p s
   pub built_sound : (ev : Run) (p : ℕ) → SeenOnly T rep ev p s₀ → BuiltOnly T rep ev p b₀ → BuiltOnly T rep ev p b
-
-pub between_none : {T : Table} {rep s b : List ℕ} → MarkRow rep s → MarkRow rep b → Between T rep s b s b
-between_none u v = record {
-  seen_marked = u;
-  built_marked = v;
-  seen_kept = λ c o. o;
-  built_kept = λ c o. o;
-  seen_sound = λ ev p s b. s;
-  built_sound = λ ev p s b. b;
-}
 
 pub between_turn : {T : Table} {n : ℕ} {rep s₀ b₀ s b s' b' : List ℕ} {ch : Bool} → Between T rep s₀ b₀ s b → Turned T n rep s b s' b' ch → Between T rep s₀ b₀ s' b'
 between_turn x t = record {

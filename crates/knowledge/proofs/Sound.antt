@@ -1,11 +1,11 @@
 -- A mark that a cell adds is right, and a turn of each sweep keeps what the sweep promises.
 use mathlib.Core.Path.{◌≡◌, sym, ◌∙◌, ap, subst}
 use mathlib.Core.Logic.{inl, inr}
-use mathlib.Core.Bool.{Bool, true, false, true≢false}
+use mathlib.Core.Bool.{Bool, true, true≢false}
 use mathlib.Core.List.{List}
 use Prim.Native.Nat.{ℕ, ◌+◌, ◌≤◌}
 use native.Mathlib.Omega.{arith}
-use lib.ListN.{length, set}
+use lib.ListN.{set}
 use borrow.Author.Count.{below_more}
 use Rattle.model.specs.Case.{Cell, PR, SE, Table, Run, Part, in_left, in_right}
 use Rattle.model.proofs.Finite.{eq?}
@@ -13,11 +13,11 @@ use Rattle.theory.specs.Cells.{Makes, Opening, class_at, On}
 use Rattle.theory.specs.Level.{Mark, seen, built}
 use Rattle.theory.proofs.Parts.{makes_parts}
 use Rattle.theory.proofs.Sweep.{mark_same, mark_rep}
-use Rattle.knowledge.specs.Knowledge.{ClassRow, MarkRow}
+use Rattle.knowledge.specs.Knowledge.{ClassRow}
 use Rattle.knowledge.specs.Sweeps.{left_part, right_part, left_class, right_class, Given, MadeBy, Gives, Adds, Newly, Shows, SeenOnly, BuiltOnly, Rising, Falling}
 use Rattle.knowledge.proofs.ByKind.{makes_ends}
 use Rattle.theory.proofs.MarkRows.{set_cases}
-use Rattle.knowledge.proofs.Grow.{grown_none, grown_mark, grown_marks}
+use Rattle.knowledge.proofs.Grow.{grown_mark, grown_marks}
 
 -- ---- what one cell adds
 
@@ -74,9 +74,6 @@ module _ (T : Table) {n : ℕ} {rep : List ℕ} (w : ClassRow n rep) (ev : Run) 
 -- ---- the sweep upwards
 
 module _ (T : Table) {n : ℕ} {rep : List ℕ} (w : ClassRow n rep) (seens m : List ℕ) where
-  pub rising_none : length m ≡ 129 → MarkRow rep m → Rising T rep seens m m false 0
-  rising_none l k = record { grown = grown_none l k; sound = λ ev p s b. b; still = λ e c h. absurd (omega arith) }
-
   module _ {r : List ℕ} {ch : Bool} (c : ℕ) (x : Rising T rep seens m r ch c) where
     pub rising_skip : (Newly T rep seens r c → ⊥) → Rising T rep seens m r ch (c + 1)
     rising_skip old = record { grown = x.grown; sound = x.sound; still = λ e. below_more (λ i. Newly T rep seens r i → ⊥) c (x.still e) old }
@@ -95,9 +92,6 @@ module _ (T : Table) {n : ℕ} {rep : List ℕ} (w : ClassRow n rep) (seens m : 
 -- ---- the sweep downwards
 
 module _ (T : Table) {n : ℕ} {rep : List ℕ} (w : ClassRow n rep) (builts m : List ℕ) where
-  pub falling_none : length m ≡ 129 → MarkRow rep m → Falling T rep builts m m false n n
-  falling_none l k = record { grown = grown_none l k; sound = λ ev p s b. s; still = λ e c h g. absurd (omega arith) }
-
   module _ {r : List ℕ} {ch : Bool} (c u : ℕ) (next : u ≡ c + 1) (x : Falling T rep builts m r ch n u) where
     pub falling_skip : (Shows T rep r builts c → ⊥) → Falling T rep builts m r ch n c
     falling_skip old = record {

@@ -1,11 +1,10 @@
 -- The rules by which one cell adds marks, and what a sweep over the cells does.
 -- Given, MadeBy, Gives, Adds: the rules; Newly, Shows: a cell at which one adds a mark; Grown: how a row of marks grows; Rising, Falling, Turned: the sweeps.
-use Rattle.std.specs.Prelude.{◌≡◌, Bool, true, false, cond, List, [], ◌∷◌, ℕ, ◌+◌, ◌≤◌, ◌<◌, eqb, length}
+use Rattle.std.specs.Prelude.{◌≡◌, Bool, true, false, cond, List, [], ◌∷◌, ℕ, ◌+◌, ◌≤◌, ◌<◌, Option, Some, None, eqb, length}
 use Rattle.model.specs.Case.{Cell, AT, VA, ONE, TWO, PR, SE, Table, Run}
 use Rattle.theory.specs.Cells.{Makes, class_at, On}
 use Rattle.theory.specs.Level.{Mark, seen, built}
-use Rattle.knowledge.specs.declared.Shown.{Shown}
-use Rattle.knowledge.specs.declared.Shown.TheVariants.{Parts, Nothing}
+use Rattle.knowledge.specs.declared.Ends.{Ends}
 use Rattle.knowledge.specs.Knowledge.{MarkRow}
 
 -- The first part of a cell: the left of a pair, a seal's body, an application's argument; where there is none, c.
@@ -65,9 +64,9 @@ pub record Shows (T : Table) (rep seens builts : List ℕ) (c : ℕ) : Type 0 wh
   pub new : On seens (left_class T rep c) → On seens (right_class T rep c) → ⊥
 
 -- What is found at c: the classes of its parts, where they are newly seen.
-pub data Finds (T : Table) (rep seens builts : List ℕ) (c : ℕ) : Shown → Type 0 where
-  parts : Shows T rep seens builts c → Finds T rep seens builts c (Parts (left_class T rep c) (right_class T rep c))
-  nothing : (Shows T rep seens builts c → ⊥) → Finds T rep seens builts c Nothing
+abbrev pub Finds : Table → List ℕ → List ℕ → List ℕ → ℕ → Option Ends → Type 0
+Finds T rep seens builts c (Some e) = (e.left ≡ left_class T rep c) × (e.right ≡ right_class T rep c) × Shows T rep seens builts c
+Finds T rep seens builts c None = Shows T rep seens builts c → ⊥
 
 -- How many entries of a row are no mark.
 abbrev pub missing : List ℕ → ℕ

@@ -8,9 +8,11 @@ use borrow.Author.Tests.{eq-eqb, ne_eqb}
 use lib.ListN.{length, get_or, drop, get_or-append}
 use Rattle.model.specs.Case.{Cell, AT, VA, ONE, TWO, Table}
 use Rattle.model.specs.Replies.{laid}
-use Rattle.printing.specs.Lines.{told, feed, value, value_line, line_of, value_lines}
-use Rattle.printing.specs.Put.{Put}
-use Rattle.printing.proofs.PutLaws.{put_join, put_none}
+use Rattle.printing.specs.Lines.{feed, value, value_line, line_of, value_lines}
+use Rattle.lines.specs.Put.{told}
+use Rattle.lines.specs.Put.{Put}
+use Rattle.printing.proofs.PutLaws.{put_none}
+use Rattle.lines.proofs.PutLaws.{put_join}
 
 module _ {before after : List ℕ} {at r : ℕ} where
   -- ---- an entry

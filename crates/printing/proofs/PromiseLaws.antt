@@ -24,7 +24,7 @@ use Rattle.casefile.specs.Case.{case_of}
 use Rattle.casefile.proofs.CaseFile.{CaseFile, case_count, case_table}
 use Rattle.printing.specs.Lines.{Lines, refused_line, counts_line, yes_line, no_line, no_lines, yes_lines, value_lines}
 use Rattle.printing.specs.Promise.{Written, ReplyPromise, SameButValues, same, values}
-use Rattle.printing.specs.Put.{Put}
+use Rattle.lines.specs.Put.{Put}
 use Rattle.printing.proofs.PutLaws.{put_laid}
 use Rattle.printing.proofs.LineLaws.{lines_laid}
 

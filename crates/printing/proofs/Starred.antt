@@ -10,7 +10,8 @@ use Rattle.model.proofs.Read.{clash}
 use Rattle.model.proofs.Claims.{D, E, J, bytes_of}
 use Rattle.model.proofs.Starred.{read_as_lem, its, e_yes, e_entry, d_no}
 use Rattle.running.proofs.PromiseLaws.{no_and_yes}
-use Rattle.printing.specs.Lines.{digits, Lines, value_lines, yes_lines, no_lines}
+use Rattle.printing.specs.Lines.{Lines, value_lines, yes_lines, no_lines}
+use Rattle.grammar.specs.Grammar.{digits}
 
 -- cells 5 events 2, run yes, v3 = 1
 abbrev pub lines_of_e : List ℕ

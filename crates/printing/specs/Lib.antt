@@ -1,4 +1,3 @@
 -- The lines of a reply, and the promise that they are written.
 pub mod Lines
 pub mod Promise
-pub mod Put

@@ -1,26 +1,14 @@
 -- What the run program prints, as bytes (document 01, "Files on both sides of each line"). Each line ends with a line feed.
--- decimal: a number's digits; told: a text with a number; refused_line, counts_line, yes_line, no_line, value_line, value_lines: the lines; Lines: those of a file's reply.
-use Rattle.std.specs.Prelude.{◌≡◌, cond, List, [], ◌∷◌, ◌++◌, ℕ, zero, suc, ◌+◌, ◌/◌, ◌%◌, eqb, ltb, length, get_or}
+-- refused_line, counts_line, yes_line, no_line, value_line, value_lines: the lines; Lines: those of a file's reply.
+use Rattle.std.specs.Prelude.{◌≡◌, cond, List, [], ◌∷◌, ◌++◌, ℕ, zero, suc, eqb, length, get_or}
 use Rattle.model.specs.Case.{Cell, AT, VA, ONE, TWO, File, Table, table_of}
 use Rattle.model.specs.Format.{read_file, refused, accepted}
 use Rattle.model.specs.Replies.{RightListed, NoneRight}
-
--- The last k decimal digits of n, as characters, without leading zeros.
-unfoldable pub digits : ℕ → ℕ → List ℕ
-digits zero n = []
-digits (suc k) n = cond (ltb n 10) ((48 + n) ∷ []) (digits k (n / 10) ++ ((48 + n % 10) ∷ []))
-
--- A number in decimal: it has no more than n + 1 digits.
-abbrev pub decimal : ℕ → List ℕ
-decimal n = digits (suc n) n
+use Rattle.lines.specs.Put.{told}
 
 -- A line feed.
 abbrev pub feed : List ℕ
 feed = 10 ∷ []
-
--- A text with a number behind it.
-abbrev pub told : List ℕ → ℕ → List ℕ
-told text n = text ++ decimal n
 
 -- refused N at P
 abbrev pub refused_line : ℕ → ℕ → List ℕ

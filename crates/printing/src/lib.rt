@@ -2,68 +2,22 @@
 
 #![tactic(auto)]
 
-ghost use Rattle.std.specs.Prelude.{[], ◌∷◌, ◌++◌, ◌+◌, ◌*◌, ◌/◌, ◌%◌, ◌<◌, ◌≤◌, length};
+ghost use Rattle.std.specs.Prelude.{◌++◌, ◌+◌, ◌*◌, ◌<◌, ◌≤◌, length};
 ghost use Rattle.model.specs.Stored.{table_in};
-ghost use Rattle.printing.specs.Lines.{decimal, told, value, value_line, line_of, value_lines, refused_line, counts_line, no_line, yes_line};
+ghost use Rattle.lines.specs.Put.{Put, told};
+ghost use Rattle.printing.specs.Lines.{value, value_line, line_of, value_lines, refused_line, counts_line, no_line, yes_line};
 ghost use Rattle.printing.specs.Promise.{ReplyPromise};
-ghost use Rattle.printing.specs.Put.{Put};
 
 use cells::{Table, is_variable};
+use lines::put_text;
 use running::Solved;
 
-// Puts a text into the buffer, and replies where it ends.
-fn put_text(text: &[u8], at: usize, out: &mut [u8]) -> usize
-    requires { at + length text.now ≤ length out.old }
-    ensures { Put text.now out.old at out.new result }
-{
-    let mut i: usize = 0;
-    while i < text.len() {
-        out[at + i] = text[i];
-        i += 1;
-    }
-    at + i
-}
-
-// Puts a digit.
-fn put_digit(n: usize, at: usize, out: &mut [u8]) -> usize
-    requires { (n < 10) × (at < length out.old) }
-    ensures { Put ((48 + n) ∷ []) out.old at out.new result }
-{
-    out[at] = b'0' + n as u8;
-    at + 1
-}
-
-// Puts two digits.
-fn put_digits(n: usize, at: usize, out: &mut [u8]) -> usize
-    requires { (n < 100) × (at + 2 ≤ length out.old) }
-    ensures { Put ((48 + n / 10) ∷ (48 + n % 10) ∷ []) out.old at out.new result }
-{
-    let tens = put_digit(n / 10, at, out);
-    put_digit(n % 10, tens, out)
-}
-
-// Puts a number below 1,000 in decimal.
-fn put_number(n: usize, at: usize, out: &mut [u8]) -> usize
-    requires { (n < 1000) × (at + 3 ≤ length out.old) }
-    ensures { Put (decimal n) out.old at out.new result × (result ≤ at + 3) }
-{
-    if n < 10 {
-        return put_digit(n, at, out);
-    }
-    if n < 100 {
-        return put_digits(n, at, out);
-    }
-    let hundreds = put_digits(n / 10, at, out);
-    put_digit(n % 10, hundreds, out)
-}
-
-// Puts a text and a number behind it.
+// Puts a text and a number below 1,000 behind it.
 fn put_told(text: &[u8], n: usize, at: usize, out: &mut [u8]) -> usize
     requires { (n < 1000) × (at + (length text.now + 3) ≤ length out.old) }
     ensures { Put (told text.now n) out.old at out.new result × (result ≤ at + (length text.now + 3)) }
 {
-    let next = put_text(text, at, out);
-    put_number(n, next, out)
+    lines::put_told(text, n, at, out)
 }
 
 // Puts the line of a refusal at the front.
@@ -119,21 +73,13 @@ fn put_line(table: &Table, v: usize, entry: u8, at: usize, out: &mut [u8]) -> us
 }
 
 // Puts one line for each variable of n cells.
-fn put_values<'a>(
-    table: &'a Table,
-    list: &'a [u8; 128],
-    n: usize,
-    at: usize,
-    out: &mut [u8],
-) -> usize
+fn put_values(table: &Table, list: &[u8; 128], n: usize, at: usize, out: &mut [u8]) -> usize
     requires { (n ≤ 128) × (at + 11 * n ≤ length out.old) }
     ensures { Put (value_lines (table_in table.now) list.now n) out.old at out.new result }
 {
     let mut next = at;
-    let mut v: usize = 0;
-    while v < n {
+    for v in 0..n {
         next = put_line(table, v, list[v], next, out);
-        v += 1;
     }
     next
 }
@@ -148,13 +94,7 @@ fn put_no(cells: usize, events: usize, out: &mut [u8]) -> usize
 }
 
 // Puts the counts, "yes" and the values of a list.
-fn put_yes<'a>(
-    table: &'a Table,
-    cells: usize,
-    events: usize,
-    list: &'a [u8; 128],
-    out: &mut [u8],
-) -> usize
+fn put_yes(table: &Table, cells: usize, events: usize, list: &[u8; 128], out: &mut [u8]) -> usize
     requires { (cells ≤ 128) × (events < 1000) × (1437 ≤ length out.old) }
     ensures { Put (counts_line cells events ++ (yes_line ++ value_lines (table_in table.now) list.now cells)) out.old 0 out.new result }
 {

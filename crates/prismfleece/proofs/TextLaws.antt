@@ -1,5 +1,5 @@
 -- The replies to typed text as numbers.
-use mathlib.Core.Path.{◌≡◌, refl, sym, ◌∙◌, ap, subst}
+use mathlib.Core.Path.{Path, ◌≡◌, refl, sym, ◌∙◌, ap, subst}
 use mathlib.Core.Logic.{◌⊎◌, inl, inr}
 use mathlib.Core.List.{List, [], ◌∷◌, ◌++◌}
 use Prim.Native.Nat.{ℕ, suc, ◌+◌, ◌-◌, ◌*◌, ◌^◌, ◌≤◌, ◌<◌}
@@ -18,19 +18,21 @@ use Rattle.grammar.specs.Text as typed
 use Rattle.grammar.specs.Text.{Outcome, refused, said, faulty, many, loose, line, Replied, short, written, TextReply}
 use Rattle.grammar.proofs.Phrases.{length_bytes}
 use Rattle.grammar.proofs.Theorems.{file_accepted}
-use Rattle.typing.specs.declared.Entered.{Entered}
-use Rattle.typing.specs.declared.Entered.TheVariants as entered
+use Rattle.std.specs.Prelude.{Result, Ok, Err}
+use Rattle.refusals.specs.declared.Refusal.{Refusal}
+use Rattle.refusals.specs.Numbers.{number_of, fault_of}
+use Rattle.refusals.proofs.Numbers.{fault_numbered, number_one as fault_one, number_up}
 use Rattle.typing.specs.Reply.{Refused, Written}
 use Rattle.prismfleece.specs.Numbers.{told_place, text_number}
 use Rattle.prismfleece.proofs.Told.{Told, refusal, small, number, Fits, number_one}
 
-abbrev pub told : Entered → Told
-told (entered.Refused n p) = refusal n (told_place p)
-told (entered.Written n) = small (suc n)
+abbrev pub told : Result ℕ Refusal → Told
+told (Err e) = refusal (number_of e.fault) (told_place e.place)
+told (Ok n) = small (suc n)
 
-told_number : (r : Entered) → text_number r ≡ number (told r)
-told_number (entered.Refused n p) = refl
-told_number (entered.Written n) = omega arith
+told_number : (r : Result ℕ Refusal) → text_number r ≡ number (told r)
+told_number (Err e) = refl
+told_number (Ok n) = omega arith
 
 -- ---- a file of at most 128 cells and 128 events has at most 898 bytes
 
@@ -93,16 +95,16 @@ refused_within (line l rest f few tied t) =
 -- ---- what is told
 
 -- The place of a refusal is at most the text's length, or at most 898.
-abbrev Near : List ℕ → Entered → Type 0
-Near text (entered.Refused n p) = (p ≤ length text) ⊎ (p ≤ 898)
-Near text (entered.Written n) = Unit
+abbrev Near : List ℕ → Result ℕ Refusal → Type 0
+Near text (Err e) = (e.place ≤ length text) ⊎ (e.place ≤ 898)
+Near text (Ok n) = Unit
 
-replied_near : {text before after : List ℕ} {o : Outcome} {r : Entered} → typed.Told [] 0 text o → Replied Refused Written before o r after → Fits (told r) × Near text r
-replied_near t (typed.refusal n p) = let (h, k) = refused_within t in ((h, omega arith), inl (omega arith))
+replied_near : {text before after : List ℕ} {o : Outcome} {r : Result ℕ Refusal} → typed.Told [] 0 text o → Replied Refused Written before o r after → Fits (told r) × Near text r
+replied_near t (typed.refusal n p) = let (h, k) = refused_within t in ((number_up (fault_of n), omega arith), inl (omega arith))
 replied_near {text = text} t (short es h) = let k = said_most text es t in ((omega arith, omega arith), inr k)
 replied_near {text = text} t (written es h) = let k = said_most text es t in (omega arith, tt)
 
-module _ (text : List ℕ) {before after : List ℕ} (r : Entered) (p : TextReply Refused Written text before r after) where
+module _ (text : List ℕ) {before after : List ℕ} (r : Result ℕ Refusal) (p : TextReply Refused Written text before r after) where
   pub text_fits : Fits (told r)
   text_fits = (replied_near p.told p.replied).0
 
@@ -110,23 +112,30 @@ module _ (text : List ℕ) {before after : List ℕ} (r : Entered) (p : TextRepl
   text_near = (replied_near p.told p.replied).1
 
 -- Two refusals with one number, both at places of 2 ^ 32 - 1 or more.
-abbrev Far : Entered → Entered → Type 0
+abbrev Far : Result ℕ Refusal → Result ℕ Refusal → Type 0
 Far r r' = (n : ℕ) × (p : ℕ) × (q : ℕ) × (r ≡ Refused n p) × (r' ≡ Refused n q) × (2 ^ 32 - 1 ≤ p) × (2 ^ 32 - 1 ≤ q)
 
--- Replies that are told alike are equal, or such refusals.
-told_alike : (r r' : Entered) → told r ≡ told r' → (r ≡ r') ⊎ Far r r'
-told_alike (entered.Refused n p) (entered.Refused m q) e =
-    let i : n ≡ m = cc in
-    let j : told_place p ≡ told_place q = cc in
-    elim (dec_lt p (2 ^ 32 - 1)) [
-      | yes h ↦ (let k : p ≡ q = omega arith in inl (cc))
-      | no h ↦ inr (n, p, q, refl, cc, omega arith, omega arith)
-    ]
-told_alike (entered.Refused n p) (entered.Written m) e = clash (cc)
-told_alike (entered.Written n) (entered.Refused m q) e = clash (cc)
-told_alike (entered.Written n) (entered.Written m) e = inl (cc)
+same_refusal : (x y : Refusal) → x.fault ≡ y.fault → x.place ≡ y.place → Path (Result ℕ Refusal) (Err x) (Err y)
+same_refusal x y f p = ap (λ a. Err (record { fault = a; place = x.place })) f ∙ ap (λ b. Err (record { fault = y.fault; place = b })) p
 
-module _ (text text' : List ℕ) {before before' after after' : List ℕ} (r r' : Entered)
+-- A refusal by the number of its fault is that refusal.
+renumbered : (x : Refusal) (n : ℕ) → n ≡ number_of x.fault → Refused n x.place ≡ Err x
+renumbered x n i = ap (λ k. Refused k x.place) i ∙ ap (λ f. Err (record { fault = f; place = x.place })) (fault_numbered x.fault)
+
+-- Replies that are told alike are equal, or such refusals.
+told_alike : (r r' : Result ℕ Refusal) → told r ≡ told r' → (r ≡ r') ⊎ Far r r'
+told_alike (Err x) (Err y) e =
+    let i : number_of x.fault ≡ number_of y.fault = cc in
+    let j : told_place x.place ≡ told_place y.place = cc in
+    elim (dec_lt x.place (2 ^ 32 - 1)) [
+      | yes h ↦ (let k : x.place ≡ y.place = omega arith in inl (same_refusal x y (fault_one x.fault y.fault i) k))
+      | no h ↦ inr (number_of x.fault, x.place, y.place, sym (renumbered x _ refl), sym (renumbered y _ i), omega arith, omega arith)
+    ]
+told_alike (Err x) (Ok m) e = clash (cc)
+told_alike (Ok n) (Err y) e = clash (cc)
+told_alike (Ok n) (Ok m) e = inl (cc)
+
+module _ (text text' : List ℕ) {before before' after after' : List ℕ} (r r' : Result ℕ Refusal)
     (p : TextReply Refused Written text before r after) (p' : TextReply Refused Written text' before' r' after') where
   -- A number tells its reply, but for places of 2 ^ 32 - 1 or more;
   pub text_tells : text_number r ≡ text_number r' → (r ≡ r') ⊎ Far r r'

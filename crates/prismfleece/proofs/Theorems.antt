@@ -24,7 +24,8 @@ use Rattle.running.specs.Promise.{RunPromise}
 use Rattle.running.proofs.Theorems.{run_settled}
 use Rattle.grammar.specs.Text.{TextReply}
 use Rattle.grammar.proofs.Theorems.{reply_settled}
-use Rattle.typing.specs.declared.Entered.{Entered}
+use Rattle.std.specs.Prelude.{Result}
+use Rattle.refusals.specs.declared.Refusal.{Refusal}
 use Rattle.typing.specs.Reply.{Refused, Written}
 use Rattle.prismfleece.specs.Numbers.{equate_number, EquateTold, run_number, RunTold, check_number, CheckTold, marks_number, MarksTold, reduce_number, ReduceTold, text_number, TextTold}
 use Rattle.prismfleece.proofs.EquateLaws.{equate_fits, equate_tells}
@@ -53,13 +54,13 @@ pub reduce_number_one : {file file' before before' after after' : List ℕ} {r r
 reduce_number_one {r = r} {r' = r'} p p' = reduce_tells r r' (reduce_fits _ _ r _ p) (reduce_fits _ _ r' _ p')
 
 -- Of a typed text but for places of 2 ^ 32 - 1 or more,
-pub text_number_one : {text text' before before' after after' : List ℕ} {r r' : Entered} →
+pub text_number_one : {text text' before before' after after' : List ℕ} {r r' : Result ℕ Refusal} →
     TextReply Refused Written text before r after → TextReply Refused Written text' before' r' after' → text_number r ≡ text_number r' →
     (r ≡ r') ⊎ ((n : ℕ) × (p : ℕ) × (q : ℕ) × (r ≡ Refused n p) × (r' ≡ Refused n q) × (2 ^ 32 - 1 ≤ p) × (2 ^ 32 - 1 ≤ q))
 text_number_one {text = text} {text' = text'} {r = r} {r' = r'} p p' = text_tells text text' r r' p p'
 
 -- which no text of fewer bytes has.
-pub text_number_exact : {text text' before before' after after' : List ℕ} {r r' : Entered} →
+pub text_number_exact : {text text' before before' after after' : List ℕ} {r r' : Result ℕ Refusal} →
     TextReply Refused Written text before r after → TextReply Refused Written text' before' r' after' → length text < 2 ^ 32 - 1 → text_number r ≡ text_number r' → r ≡ r'
 text_number_exact {text = text} {text' = text'} {r = r} {r' = r'} p p' = text_exact text text' r r' p p'
 

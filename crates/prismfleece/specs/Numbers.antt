@@ -1,5 +1,7 @@
 -- The replies of the five questions and of the reading of typed text as numbers, and what a number tells.
-use Rattle.std.specs.Prelude.{◌≡◌, List, ℕ, ◌+◌, ◌-◌, ◌*◌, ◌^◌, min}
+use Rattle.std.specs.Prelude.{◌≡◌, List, ℕ, ◌+◌, ◌-◌, ◌*◌, ◌^◌, min, Result, Ok, Err}
+use Rattle.refusals.specs.declared.Refusal.{Refusal}
+use Rattle.refusals.specs.Numbers.{number_of}
 use Rattle.building.specs.declared.Marked.{Marked}
 use Rattle.building.specs.declared.Marked.TheVariants as marked
 use Rattle.building.specs.Promise.{MarksPromise}
@@ -16,8 +18,6 @@ use Rattle.running.specs.declared.Solved.{Solved}
 use Rattle.running.specs.declared.Solved.TheVariants as solved
 use Rattle.running.specs.Promise.{RunPromise}
 use Rattle.grammar.specs.Text.{TextReply}
-use Rattle.typing.specs.declared.Entered.{Entered}
-use Rattle.typing.specs.declared.Entered.TheVariants as entered
 use Rattle.typing.specs.Reply.{Refused, Written}
 
 -- A refusal: its number, and its place below 2 ^ 32.
@@ -77,10 +77,10 @@ abbrev pub told_place : ℕ → ℕ
 told_place place = min place (2 ^ 32 - 1)
 
 -- Typed text.
-abbrev pub text_number : Entered → ℕ
-text_number (entered.Refused number place) = refusal_number number (told_place place)
-text_number (entered.Written n) = n + 1
+abbrev pub text_number : Result ℕ Refusal → ℕ
+text_number (Err e) = refusal_number (number_of e.fault) (told_place e.place)
+text_number (Ok n) = n + 1
 
 -- The number r is that of a reply that keeps the promise of typed text.
 abbrev pub TextTold : List ℕ → List ℕ → ℕ → List ℕ → Type 0
-TextTold text before r after = (reply : Entered) × TextReply Refused Written text before reply after × (r ≡ text_number reply)
+TextTold text before r after = (reply : Result ℕ Refusal) × TextReply Refused Written text before reply after × (r ≡ text_number reply)

@@ -12,7 +12,6 @@ use checking::Judged;
 use equating::Equated;
 use reducing::Reduced;
 use running::Solved;
-use typing::Entered;
 
 // The number of a refusal.
 fn refusal(number: u8, place: usize) -> u64
@@ -101,9 +100,8 @@ pub extern "C" fn prismfleece_reduce(file: &[u8], out: &mut [u8]) -> u64
 pub extern "C" fn prismfleece_text(text: &[u8], out: &mut [u8]) -> u64
     ensures { TextTold text.now out.old result out.new }
 {
-    let reply = typing::read_text(text, out);
-    match reply {
-        Entered::Refused(number, place) => refusal(number, told_place(place)),
-        Entered::Written(n) => n as u64 + 1,
+    match typing::read_text(text, out) {
+        Err(refused) => refusal(refused.fault.number(), told_place(refused.place)),
+        Ok(n) => n as u64 + 1,
     }
 }

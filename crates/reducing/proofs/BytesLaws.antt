@@ -1,12 +1,12 @@
 -- The bytes of records, written one after another.
 use mathlib.Core.Path.{◌≡◌, refl, sym, ◌∙◌, ap}
 use mathlib.Core.Bool.{cond}
-use mathlib.Core.List.{List, [], ◌∷◌, ◌++◌, map, append-nil, append_assoc}
-use Prim.Native.Nat.{ℕ, zero, suc, ◌+◌, ◌*◌, ◌/◌, ◌%◌, ◌≤◌, ◌<◌}
+use mathlib.Core.List.{List, [], ◌∷◌, ◌++◌, map, append-nil}
+use Prim.Native.Nat.{ℕ, zero, suc, ◌+◌, ◌*◌, ◌≤◌, ◌<◌}
 use native.Mathlib.Omega.{arith}
 use native.Mathlib.Numerals.{add-one}
-use lib.ListN.{length, get_or, drop, set, length-append}
-use lib.Seq.{sets, length-sets}
+use lib.ListN.{length, get_or, drop, length-append}
+use lib.Seq.{sets}
 use borrow.Author.Tests.{eq-eqb, ne_eqb}
 use Rattle.model.specs.Message.{App, Two}
 use Rattle.model.specs.Case as case
@@ -14,45 +14,12 @@ use Rattle.model.specs.Case.{AT, VA, ONE, TWO, LN}
 use Rattle.model.specs.Format.{Kind, mark, cell_bytes, event_bytes, joined, file_bytes}
 use Rattle.model.specs.Stored.{table_in}
 use Rattle.model.proofs.Listed.{sets_append, sets_front}
-use Rattle.cells.specs.Cells.{as_cell}
-use Rattle.cells.specs.declared.Cell.{Cell}
-use Rattle.cells.specs.declared.Cell.TheVariants as cell
+use Rattle.records.proofs.Rows.{joined_last}
 use Rattle.reducing.specs.declared.Plan.{Plan}
 use Rattle.reducing.specs.Plan.{up_to, marked, planned, Sized}
 
 -- ---- one record
-pub set_two : (l : List ℕ) (at a b : ℕ) → set (set l at a) (at + 1) b ≡ sets l at (a ∷ b ∷ [])
-set_two l at a b = ap (λ i. set (set l at a) i b) (add-one at)
-
-pub set_three : (l : List ℕ) (at a b c : ℕ) → set (sets l at (a ∷ b ∷ [])) (at + 2) c ≡ sets l at (a ∷ b ∷ c ∷ [])
-set_three l at a b c = (let z : at + 2 ≡ suc (suc at) = omega arith in ap (λ i. set (sets l at (a ∷ b ∷ [])) i c) z)
-
-pub set_four : (l : List ℕ) (at a b c d : ℕ) → set (set (sets l at (a ∷ b ∷ [])) (at + 2) c) (at + 3) d ≡ sets l at (a ∷ b ∷ c ∷ d ∷ [])
-set_four l at a b c d =
-    let z : at + 3 ≡ suc (suc (suc at)) = omega arith in
-    ap (λ k. set k (at + 3) d) (set_three l at a b c) ∙ ap (λ i. set (sets l at (a ∷ b ∷ c ∷ [])) i d) z
-
--- ---- the record of a cell
-module _ {k : Cell} where
-  pub bytes_name : {n : ℕ} → k ≡ cell.Atom n → 65 ∷ 84 ∷ n / 256 ∷ n % 256 ∷ [] ≡ cell_bytes (as_cell k)
-  bytes_name e = rw e refl
-
-  pub bytes_variable : k ≡ cell.Variable → 86 ∷ 65 ∷ [] ≡ cell_bytes (as_cell k)
-  bytes_variable e = rw e refl
-
-  pub bytes_pair : {l r : ℕ} → k ≡ cell.Pair l r → 80 ∷ 82 ∷ l ∷ r ∷ [] ≡ cell_bytes (as_cell k)
-  bytes_pair e = rw e refl
-
-  pub bytes_seal : {b s : ℕ} → k ≡ cell.Seal b s → 83 ∷ 69 ∷ b ∷ s ∷ [] ≡ cell_bytes (as_cell k)
-  bytes_seal e = rw e refl
-
-  pub bytes_apply : {f a : ℕ} → k ≡ cell.Apply f a → 65 ∷ 80 ∷ f ∷ a ∷ [] ≡ cell_bytes (as_cell k)
-  bytes_apply e = rw e refl
-
-pub learn_put : (l : List ℕ) (at c : ℕ) → set (sets l at (76 ∷ 78 ∷ [])) (at + 2) c ≡ sets l at (event_bytes (LN c))
-learn_put l at c = set_three l at 76 78 c
-
-cell_length : (k : case.Cell) → (k ≡ VA → ⊥) → length (cell_bytes k) ≡ 4
+pub cell_length : (k : case.Cell) → (k ≡ VA → ⊥) → length (cell_bytes k) ≡ 4
 cell_length (AT n) v = refl
 cell_length VA v = absurd (v refl)
 cell_length (ONE (App f) a) v = refl
@@ -60,15 +27,6 @@ cell_length (TWO Two.Pair l r) v = refl
 cell_length (TWO Two.Seal b s) v = refl
 
 -- ---- records in a row
-joined_append : {A : Type 0} (bytes : A → List ℕ) (l k : List A) → joined bytes (l ++ k) ≡ joined bytes l ++ joined bytes k
-unfolding joined
-joined_append bytes [] k = refl
-joined_append bytes (x ∷ l) k = ap (λ r. bytes x ++ r) (joined_append bytes l k) ∙ sym (append_assoc (bytes x) (joined bytes l) (joined bytes k))
-
-pub joined_last : {A : Type 0} (bytes : A → List ℕ) (l : List A) (x : A) → joined bytes (l ++ (x ∷ [])) ≡ joined bytes l ++ bytes x
-unfolding joined
-joined_last bytes l x = joined_append bytes l (x ∷ []) ∙ ap (λ r. joined bytes l ++ r) (append-nil (bytes x))
-
 pub events_length : (l : List ℕ) → length (joined event_bytes (map LN l)) ≡ 3 * length l
 unfolding joined
 events_length [] = refl
@@ -164,6 +122,3 @@ file_written p s l middle after h e f =
     let B : List ℕ = joined event_bytes (planned p).events ++ mark Kind.End in
     let a = cells_length p.table p.cells s.solid in
     f ∙ (ap (λ o. sets o (4 * p.cells) B) e ∙ (sets_append A l B 0 (4 * p.cells) (omega arith) ∙ sets_front (A ++ B) l h))
-
-pub sets_kept : (n : ℕ) (out after : List ℕ) (at : ℕ) (vs : List ℕ) → length out ≡ n → after ≡ sets out at vs → length after ≡ n
-sets_kept n out after at vs h e = ap length e ∙ (length-sets out at vs ∙ h)

@@ -1,7 +1,7 @@
 -- Heights, from the first cell up: parts stand lower.
 use mathlib.Core.Path.{◌≡◌, refl, sym, ◌∙◌, ap}
 use mathlib.Core.List.{List}
-use Prim.Native.Nat.{ℕ, ◌+◌, ◌≤◌, ◌<◌, max}
+use Prim.Native.Nat.{ℕ, ◌+◌, ◌≤◌, ◌<◌}
 use native.Mathlib.Omega.{arith}
 use native.Mathlib.Decide.{ℕ_discrete, dec_lt}
 use lib.ListN.{length, get_or, set, length-set, length-replicate, replicate}
@@ -10,27 +10,9 @@ use Rattle.model.specs.Message.{Message, atom}
 use Rattle.model.specs.Case.{Cell, AT, VA, ONE, TWO, Table, Part, in_arg, in_left, in_right, look, Ground}
 use Rattle.model.specs.Reduce.{height}
 use Rattle.model.specs.Stored.{table_in}
-use Rattle.model.proofs.Read.{clash}
 use Rattle.model.proofs.Rows.{zeros}
 use Rattle.theory.specs.Cells.{TableWords}
-use Rattle.cells.specs.Cells.{parts_of}
-use Rattle.cells.specs.declared.Parts.TheVariants as parts
 use Rattle.reducing.specs.Bare.{height_at, Heights}
-use Rattle.reducing.proofs.PartLaws.{parts_one, parts_two}
-
--- ---- by the parts
-module _ (high : ℕ → ℕ) where
-  pub height_none : (k : Cell) → parts_of k ≡ parts.None → 0 ≡ height_at high k
-  height_none (AT n) e = refl
-  height_none VA e = refl
-  height_none (ONE g a) e = clash (cc)
-  height_none (TWO h l r) e = clash (cc)
-
-  pub height_one : (k : Cell) {a x : ℕ} → parts_of k ≡ parts.One a → x ≡ high a → x + 1 ≡ height_at high k
-  height_one k e i = let (g, z) = parts_one k e in rw z (omega arith)
-
-  pub height_two : (k : Cell) {a b x : ℕ} → parts_of k ≡ parts.Two a b → x ≡ max (high a) (high b) → x + 1 ≡ height_at high k
-  height_two k e i = let (h, z) = parts_two k e in rw z (omega arith)
 
 -- ---- of messages
 height_same : (f g : ℕ → ℕ) (k : Cell) → ((d : ℕ) → Part k d → f d ≡ g d) → height_at f k ≡ height_at g k

@@ -15,7 +15,7 @@ use Rattle.cells.specs.Cells.{parts_of}
 use Rattle.cells.specs.declared.Parts.TheVariants as parts
 use Rattle.reducing.specs.Given.{Given}
 use Rattle.reducing.specs.Bare.{Adds, Kept, itself, part, Keeps}
-use Rattle.reducing.proofs.PartLaws.{parts_none, parts_one, parts_two}
+use Rattle.reducing.proofs.PartLaws.{parts_one, parts_two}
 
 -- ---- the parts of a cell
 part_one : {g : One} {a d : ℕ} → Part (ONE g a) d → d ≡ a
@@ -26,9 +26,6 @@ part_two in_left = inl refl
 part_two in_right = inr refl
 
 module _ (rep marks : List ℕ) (size : length marks ≡ 129) where
-  pub adds_none : (k : Cell) → parts_of k ≡ parts.None → Adds rep marks k marks
-  adds_none k e = record { size = size; stays = λ c o. o; parts = λ d p. absurd (parts_none k e d p); only = λ c n o. absurd (n o) }
-
   adds_arg : (g : One) (y b : ℕ) → b ≡ class_at rep y → b ≤ 128 → Adds rep marks (ONE g y) (set marks b 1)
   adds_arg g y b e h =
       let lt : b < length marks = omega arith in
@@ -89,14 +86,6 @@ module _ (n : ℕ) (words rep bare : List ℕ) (g : Given n words rep) (below : 
   keeping_start s = record { size = s; sound = λ c o. itself o; has = λ c o. o; closed = λ c d h o p. (let lt = below c o in absurd (omega arith)) }
 
   module _ (i : ℕ) (marks : List ℕ) (k : Keeping T rep bare (i + 1) marks) where
-    pub keeping_skip : (On marks i → ⊥) → Keeping T rep bare i marks
-    keeping_skip ne = record {
-      size = k.size;
-      sound = k.sound;
-      has = k.has;
-      closed = λ c d h o p. elim (ℕ_discrete c i) [ yes e ↦ absurd (ne (subst (On marks) e o)) | no u ↦ k.closed c d (omega arith) o p ];
-    }
-
     pub keeping_add : (after : List ℕ) → On marks i → Adds rep marks (T i) after → Keeping T rep bare i after
     keeping_add after o a = record {
       size = a.size;

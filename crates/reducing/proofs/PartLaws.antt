@@ -1,15 +1,11 @@
 -- A cell by its parts, and by what it is composed of.
 use mathlib.Core.Path.{◌≡◌, subst}
-use mathlib.Core.List.{List}
 use Prim.Native.Nat.{ℕ, ◌≤◌}
-use native.Mathlib.Omega.{arith}
 use Rattle.model.specs.Message.{One, Two}
 use Rattle.model.specs.Case as case
 use Rattle.model.specs.Case.{AT, VA, ONE, TWO, Part, in_arg, in_left, in_right}
 use Rattle.model.proofs.Read.{clash}
-use Rattle.model.specs.Stored.{table_in}
-use Rattle.theory.specs.Cells.{Makes, TableWords}
-use Rattle.theory.proofs.Rows.{rows_part}
+use Rattle.theory.specs.Cells.{Makes}
 use Rattle.cells.specs.Cells.{as_cell, parts_of, MadeOf, one, two}
 use Rattle.cells.specs.declared.Cell.{Cell}
 use Rattle.cells.specs.declared.Cell.TheVariants as cell
@@ -39,10 +35,6 @@ parts_two (TWO h l r) e = (h, cc)
 makes_parts : {k : case.Cell} {a b : ℕ} → Makes k a b → Part k a × Part k b
 makes_parts (Makes.ones s) = (in_arg, in_arg)
 makes_parts Makes.twos = (in_left, in_right)
-
--- Those of a cell of a table are low.
-pub low_at : {n : ℕ} {words : List ℕ} → TableWords n words → (c : ℕ) {k : case.Cell} → k ≡ table_in words c → LowParts k
-low_at w c e d p = omega (arith, w.few, (rows_part w c d (subst (λ k. Part k d) e p)).1)
 
 module _ {k : Cell} (low : LowParts (as_cell k)) where
   pub low_pair : {a b : ℕ} → k ≡ cell.Pair a b → (a ≤ 128) × (b ≤ 128)

@@ -11,7 +11,7 @@ use native.Mathlib.Decide.{ℕ_discrete}
 use lib.Dec.{eqb}
 use lib.ListN.{length, get_or, set, length-set, length-append, length-replicate, get_or-append}
 use lib.Seq.{get_or-set_same, get_or-set_other, get_or_at}
-use borrow.Author.Tests.{eq-eqb, ne_eqb, eqb-true}
+use borrow.Author.Tests.{eq-eqb, eqb-true}
 use Rattle.model.specs.Case.{Cell}
 use Rattle.model.specs.Reduce.{Rising, none, more}
 use Rattle.model.specs.Stored.{cell_in, table_in, word_of}
@@ -23,9 +23,6 @@ use Rattle.reducing.specs.Plan.{up_to, tally, marked, empty_plan, put_row, Laid}
 -- ---- marks
 pub tally_yes : (b : ℕ) → b ≡ 1 → 1 ≡ tally b
 tally_yes b e = ap (λ t. cond t 1 0) (sym (eq-eqb b 1 e))
-
-pub tally_no : (b : ℕ) → (b ≡ 1 → ⊥) → 0 ≡ tally b
-tally_no b e = ap (λ t. cond t 1 0) (sym (ne_eqb b 1 e))
 
 length_mark : (t : Bool) (n : ℕ) → length (cond t (n ∷ []) []) ≡ cond t 1 0
 length_mark true n = refl

@@ -1,4 +1,4 @@
--- The promise of reducing (document 01, "Reducing" and "Refusal numbers and their order"). Assumes nothing.
+-- The promise of reducing: a refusal with its number and place, or the reduced file at the front of the buffer. Assumes nothing.
 -- SameBuilt: files that let him build the same; ReducePromise: the reply and the buffer after it, for every file and every buffer before it.
 use Rattle.std.specs.Prelude.{◌≡◌, ◌↔◌, List, ℕ, ◌≤◌, ◌<◌, length}
 use Rattle.std.proofs.Math.Option.{some, none}

@@ -8,45 +8,32 @@ ghost use Rattle.reducing.specs.Bare.{height_at, Heights};
 use cells::{Cell, Parts, Table, cell_at, parts_of};
 
 // What a row says of the cell d; 0 past its end.
-fn row_at(bytes: [u8; 129], d: u8) -> u8
-    ensures { result ≡ get_or bytes d 0 }
+fn row_at(bytes: &[u8; 129], d: u8) -> u8
+    ensures { result ≡ get_or bytes.now d 0 }
 {
-    if d < 129 {
-        return bytes[d as usize];
-    }
-    0
+    if d < 129 { bytes[usize::from(d)] } else { 0 }
 }
 
 // The height of a cell's message, from those of its parts.
-fn height_of(k: Cell, heights: [u8; 129]) -> u8
-    requires { (d : ℕ) → get_or heights d 0 < 255 }
-    ensures { result ≡ height_at (λ d. get_or heights d 0) (as_cell k) }
+fn height_of(k: Cell, heights: &[u8; 129]) -> u8
+    requires { (d : ℕ) → get_or heights.now d 0 < 255 }
+    ensures { result ≡ height_at (λ d. get_or heights.now d 0) (as_cell k) }
 {
-    let parts = parts_of(k);
-    match parts {
+    match parts_of(k) {
         Parts::None => 0,
         Parts::One(a) => row_at(heights, a) + 1,
-        Parts::Two(a, b) => {
-            let x = row_at(heights, a);
-            let y = row_at(heights, b);
-            if x < y {
-                return y + 1;
-            }
-            x + 1
-        }
+        Parts::Two(a, b) => row_at(heights, a).max(row_at(heights, b)) + 1,
     }
 }
 
 // The heights of the messages that the cells show.
-pub fn heights<'a>(table: &'a Table, n: usize) -> [u8; 129]
+pub fn heights(table: &Table, n: usize) -> [u8; 129]
     requires { TableWords n table.now }
     ensures { Heights (table_in table.now) n result }
 {
     let mut high: [u8; 129] = [0; 129];
-    let mut c: usize = 0;
-    while c < n {
-        high[c] = height_of(cell_at(table, c), high);
-        c += 1;
+    for c in 0..n {
+        high[c] = height_of(cell_at(table, c), &high);
     }
     high
 }

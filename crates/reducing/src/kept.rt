@@ -17,99 +17,75 @@ use knowledge::{cell, has};
 fn is_own(k: Cell) -> bool
     ensures { Decides result (as_cell k ≡ AT 0) }
 {
-    match k {
-        Cell::Atom(n) => n == 0,
-        Cell::Variable => false,
-        Cell::Pair(_, _) => false,
-        Cell::Seal(_, _) => false,
-        Cell::Apply(_, _) => false,
-    }
+    matches!(k, Cell::Atom(0))
 }
 
 // Is the cell k name 0, or composed of built parts?
-fn is_idle<'a>(n: usize, k: Cell, rep: &'a [u8; 129], built: &'a [u8; 129]) -> bool
+fn is_idle(n: usize, k: Cell, rep: &[u8; 129], built: &[u8; 129]) -> bool
     requires { ClassRow n rep.now × LowParts (as_cell k) }
     ensures { Decides result (Idle (BuiltClass rep.now built.now) (as_cell k)) }
 {
-    let made = made_of(k);
-    match made {
+    match made_of(k) {
         Parts::None => is_own(k),
         Parts::One(a) => has(n, rep, built, a),
-        Parts::Two(a, b) => {
-            if !has(n, rep, built, b) {
-                return false;
-            }
-            has(n, rep, built, a)
-        }
+        Parts::Two(a, b) => has(n, rep, built, b) && has(n, rep, built, a),
     }
 }
 
 // Does the cell k at the number c stand for its class, and is it bare and not name 0?
-fn is_bare<'a>(c: usize, n: usize, k: Cell, rep: &'a [u8; 129], built: &'a [u8; 129]) -> bool
+fn is_bare(c: usize, n: usize, k: Cell, rep: &[u8; 129], built: &[u8; 129]) -> bool
     requires { ClassRow n rep.now × LowParts (as_cell k) × (c < 128) }
     ensures { Decides result (IsBare rep.now built.now c (as_cell k)) }
 {
-    let z = class_of(rep, c);
-    if z != c {
-        return false;
-    }
-    if built[z] != 1 {
-        return false;
-    }
-    !is_idle(n, k, rep, built)
+    class_of(rep, c) == c && built[c] == 1 && !is_idle(n, k, rep, built)
 }
 
 // The marks on the bare cells except name 0, one of each class.
-pub fn bare<'a>(table: &'a Table, n: usize, rep: &'a [u8; 129], built: &'a [u8; 129]) -> [u8; 129]
+pub fn bare(table: &Table, n: usize, rep: &[u8; 129], built: &[u8; 129]) -> [u8; 129]
     requires { Given n table.now rep.now }
     ensures { Bares (table_in table.now) rep.now built.now n result }
 {
     let mut marks: [u8; 129] = [0; 129];
-    let mut c: usize = 0;
-    while c < n {
+    for c in 0..n {
         if is_bare(c, n, cell_at(table, c), rep, built) {
             marks[c] = 1;
         }
-        c += 1;
     }
     marks
 }
 
-// The marks, with the one on the class of the cell d.
-fn with_class<'a>(marks: [u8; 129], rep: &'a [u8; 129], d: u8) -> [u8; 129]
+// Marks the class of the cell d.
+fn mark_class(marks: &mut [u8; 129], rep: &[u8; 129], d: u8)
     requires { LowClasses rep.now × (d ≤ 128) }
-    ensures { result ≡ set marks (class_at rep.now d) 1 }
+    ensures { marks.new ≡ set marks.old (class_at rep.now d) 1 }
 {
-    let mut after = marks;
-    let z = class_of(rep, cell(d));
-    after[z] = 1;
-    after
+    marks[class_of(rep, cell(d))] = 1;
 }
 
-// The marks, with those on the classes of a cell's parts.
-fn with_parts<'a>(marks: [u8; 129], k: Cell, rep: &'a [u8; 129]) -> [u8; 129]
+// Marks the classes of a cell's parts.
+fn mark_parts(marks: &mut [u8; 129], k: Cell, rep: &[u8; 129])
     requires { LowClasses rep.now × LowParts (as_cell k) }
-    ensures { Adds rep.now marks (as_cell k) result }
+    ensures { Adds rep.now marks.old (as_cell k) marks.new }
 {
-    let parts = parts_of(k);
-    match parts {
-        Parts::None => marks,
-        Parts::One(a) => with_class(marks, rep, a),
-        Parts::Two(a, b) => with_class(with_class(marks, rep, b), rep, a),
+    match parts_of(k) {
+        Parts::None => {}
+        Parts::One(a) => mark_class(marks, rep, a),
+        Parts::Two(a, b) => {
+            mark_class(marks, rep, b);
+            mark_class(marks, rep, a);
+        }
     }
 }
 
 // The marks on the bare cells and on all that stands in them, from the last cell down.
-pub fn keep<'a>(table: &'a Table, n: usize, rep: &'a [u8; 129], bare: [u8; 129]) -> [u8; 129]
-    requires { Given n table.now rep.now × ((c : ℕ) → On bare c → c < n) }
-    ensures { Keeps (table_in table.now) rep.now bare n result }
+pub fn keep(table: &Table, n: usize, rep: &[u8; 129], bare: &[u8; 129]) -> [u8; 129]
+    requires { Given n table.now rep.now × ((c : ℕ) → On bare.now c → c < n) }
+    ensures { Keeps (table_in table.now) rep.now bare.now n result }
 {
-    let mut marks = bare;
-    let mut c = n;
-    while 0 < c {
-        c -= 1;
+    let mut marks = *bare;
+    for c in (0..n).rev() {
         if marks[c] == 1 {
-            marks = with_parts(marks, cell_at(table, c), rep);
+            mark_parts(&mut marks, cell_at(table, c), rep);
         }
     }
     marks

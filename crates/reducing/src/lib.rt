@@ -28,7 +28,7 @@ pub enum Reduced {
 }
 
 // The reduced file before it is written: its table, marks on the cells that it learns, and how many cells and events it has.
-#[derive(Clone, Copy)]
+#[derive(Clone, Copy, Debug, PartialEq, Eq)]
 struct Plan {
     pub table: Table,
     pub learnt: [u8; 128],
@@ -37,20 +37,20 @@ struct Plan {
 }
 
 // The plan of the reduced file of a table without variables, from the classes of its cells and the built marks.
-fn make_plan<'a>(table: &'a Table, n: usize, rep: &'a [u8; 129], built: &'a [u8; 129]) -> Plan
+fn make_plan(table: &Table, n: usize, rep: &[u8; 129], built: &[u8; 129]) -> Plan
     requires { Given n table.now rep.now }
     ensures sized { Sized result }
     ensures reduced { Plans (table_in table.now) rep.now built.now result }
 {
     let bares = kept::bare(table, n, rep, built);
-    let kept = kept::keep(table, n, rep, bares);
+    let kept = kept::keep(table, n, rep, &bares);
     let high = height::heights(table, n);
-    let numbers = order::order(table, n, rep, high, kept);
-    rows::lay(table, rep, numbers, bares)
+    let numbers = order::order(table, n, rep, &high, &kept);
+    rows::lay(table, rep, &numbers, &bares)
 }
 
 // The plan of the reduced file of a table without variables and of its events.
-fn plan_run<'a>(table: &'a Table, n: usize, run: &'a Run, count: usize) -> Plan
+fn plan_run(table: &Table, n: usize, run: &Run, count: usize) -> Plan
     requires table_words { TableWords n table.now }
     requires solid { Solid table.now }
     requires run_words { RunWords n run.now count }
@@ -58,23 +58,21 @@ fn plan_run<'a>(table: &'a Table, n: usize, run: &'a Run, count: usize) -> Plan
     ensures reduced { PlansRun (table_in table.now) (run_in count run.now) result }
 {
     let k = knowledge::heard::open_heard(table, n, run, count);
-    let rep = k.rep;
-    let built = k.built;
-    make_plan(table, n, &rep, &built)
+    make_plan(table, n, &k.rep, &k.built)
 }
 
 // How many bytes the reduced file takes.
-fn needed(plan: Plan) -> usize
-    requires { Sized plan }
-    ensures { (result ≡ 4 * plan.cells + 3 * plan.events + 2) × (result ≡ length (file_bytes (planned plan))) }
+fn needed(plan: &Plan) -> usize
+    requires { Sized plan.now }
+    ensures { (result ≡ 4 * plan.now.cells + 3 * plan.now.events + 2) × (result ≡ length (file_bytes (planned plan.now))) }
 {
     4 * plan.cells + 3 * plan.events + 2
 }
 
 // Writes the reduced file at the front of `out`, which has room for it.
-fn write_plan(plan: Plan, out: &mut [u8])
-    requires { Sized plan × (length (file_bytes (planned plan)) ≤ length out.old) }
-    ensures { out.new ≡ file_bytes (planned plan) ++ drop (length (file_bytes (planned plan))) out.old }
+fn write_plan(plan: &Plan, out: &mut [u8])
+    requires { Sized plan.now × (length (file_bytes (planned plan.now)) ≤ length out.old) }
+    ensures { out.new ≡ file_bytes (planned plan.now) ++ drop (length (file_bytes (planned plan.now))) out.old }
 {
     write::write_cells(plan, out);
     write::write_events(plan, out);
@@ -85,21 +83,22 @@ pub fn reduce(file: &[u8], out: &mut [u8]) -> Reduced
     ensures { ReducePromise file.now out.old result out.new }
 {
     let case = casefile::read_case(file);
-    let verdict = case.verdict;
-    if let Verdict::Refused(number, place) = verdict {
+    if let Verdict::Refused(number, place) = case.verdict {
         return Reduced::Refused(number, place);
     }
-    let variable = case.variable;
-    if let Found::At(at) = variable {
+    if let Found::At(at) = case.variable {
         return Reduced::Refused(8, at);
     }
-    let t = case.table;
-    let e = case.run;
-    let plan = plan_run(&t.words, t.count, &e.words, e.count);
-    let length = needed(plan);
+    let plan = plan_run(
+        &case.table.words,
+        case.table.count,
+        &case.run.words,
+        case.run.count,
+    );
+    let length = needed(&plan);
     if out.len() < length {
         return Reduced::Refused(9, length);
     }
-    write_plan(plan, out);
+    write_plan(&plan, out);
     Reduced::Reduced(length)
 }

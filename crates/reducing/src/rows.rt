@@ -2,7 +2,7 @@
 ghost use Rattle.std.specs.Prelude.{◌≡◌, ℕ, ◌<◌, ◌≤◌, get_or};
 ghost use Rattle.model.specs.Stored.{table_in};
 ghost use Rattle.reducing.specs.Given.{LowParts, LowClasses};
-ghost use Rattle.reducing.specs.Plan.{tally, empty_plan, put_row, Laid};
+ghost use Rattle.reducing.specs.Plan.{empty_plan, put_row, Laid};
 
 use super::Plan;
 use super::order::{Numbers, renumbered};
@@ -20,47 +20,28 @@ fn empty_plan() -> Plan
     }
 }
 
-// One, where a byte is a mark.
-fn tally_of(b: u8) -> usize
-    ensures { (result ≡ tally b) × (result ≤ 1) }
+// One more cell in the plan, learnt if b is a mark.
+fn put_row(plan: &mut Plan, word: u32, b: u8)
+    requires { (plan.old.cells < 128) × (plan.old.events ≤ plan.old.cells) }
+    ensures { plan.new ≡ put_row plan.old word b }
 {
-    if b == 1 {
-        return 1;
-    }
-    0
-}
-
-// The plan with one more cell, learnt if b is a mark.
-fn put_row(plan: Plan, word: u32, b: u8) -> Plan
-    requires { (plan.cells < 128) × (plan.events ≤ plan.cells) }
-    ensures { result ≡ put_row plan word b }
-{
-    let mut p = plan;
-    let at = plan.cells;
-    let more = tally_of(b);
-    p.table[at] = word;
-    p.learnt[at] = b;
-    p.cells = at + 1;
-    p.events = plan.events + more;
-    p
+    plan.table[plan.cells] = word;
+    plan.learnt[plan.cells] = b;
+    plan.cells += 1;
+    plan.events += usize::from(b == 1);
 }
 
 // The numbered cells, in the new numbers.
-pub fn lay<'a>(table: &'a Table, rep: &'a [u8; 129], numbers: Numbers, bare: [u8; 129]) -> Plan
+pub fn lay(table: &Table, rep: &[u8; 129], numbers: &Numbers, bare: &[u8; 129]) -> Plan
     requires low_classes { LowClasses rep.now × ((c : ℕ) → LowParts (table_in table.now c)) }
-    requires count_bound { (numbers.count ≤ 128) × ((j : ℕ) → j < numbers.count → get_or numbers.old j 0 < 128) }
-    ensures { Laid table.now rep.now numbers.old numbers.new bare numbers.count result }
+    requires count_bound { (numbers.now.count ≤ 128) × ((j : ℕ) → j < numbers.now.count → get_or numbers.now.old j 0 < 128) }
+    ensures { Laid table.now rep.now numbers.now.old numbers.now.new bare.now numbers.now.count result }
 {
-    let old = numbers.old;
-    let new = numbers.new;
-    let count = numbers.count;
-    let mut p = empty_plan();
-    let mut i: usize = 0;
-    while i < count {
-        let c = old[i] as usize;
-        let k = renumbered(cell_at(table, c), rep, &new);
-        p = put_row(p, word_of(k), bare[c]);
-        i += 1;
+    let mut plan = empty_plan();
+    for i in 0..numbers.count {
+        let c = usize::from(numbers.old[i]);
+        let k = renumbered(cell_at(table, c), rep, &numbers.new);
+        put_row(&mut plan, word_of(k), bare[c]);
     }
-    p
+    plan
 }

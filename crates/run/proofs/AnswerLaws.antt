@@ -1,4 +1,4 @@
--- What a read adds stays within the buffer; and the reply to the first bytes is the reply to the whole input.
+-- The reply to the first bytes is the reply to the whole input.
 use mathlib.Core.Path.{◌≡◌, ap, subst}
 use mathlib.Core.List.{List}
 use Prim.Native.Nat.{ℕ, ◌+◌, ◌-◌, ◌≤◌}
@@ -8,21 +8,7 @@ use lib.Seq.{length-take-le}
 use Rattle.model.specs.Replies.{laid}
 use Rattle.printing.specs.Promise.{ReplyPromise}
 use Rattle.printing.proofs.Theorems.{reply_from_prefix}
-use Rattle.run.specs.declared.Input.{Input}
-use Rattle.run.specs.declared.Input.TheVariants.{Bytes}
-use Rattle.run.specs.Answers.{Filled, Answers}
-
-pub filled : (start : List ℕ) (r : Input) (n : ℕ) → r ≡ Bytes n → Filled start r → n ≤ length start
-filled start r n e h = subst (Filled start) e h
-
--- A read into the rest of the buffer.
-pub some_inside : (start rest : List ℕ) (done n : ℕ) (r : Input) → done ≤ length start → length rest ≡ length (take (length start - done) (drop done start)) → Filled rest r → r ≡ Bytes n →
-    done + n ≤ length start
-some_inside start rest done n r h e w i =
-    let l = filled rest r n i w in
-    let d = length-drop done start in
-    let t = length-take-le (length start - done) (drop done start) (omega arith) in
-    omega arith
+use Rattle.run.specs.Answers.{Answers}
 
 pub answers : (start before after : List ℕ) (n r : ℕ) → 899 ≤ length start → 1437 ≤ length before → ReplyPromise (take n start) before r after → Answers start n before r after
 answers start before after n r long room p = record {

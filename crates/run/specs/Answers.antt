@@ -1,14 +1,7 @@
 -- The reply to an input of which the first bytes were read.
--- Filled: what reading came to; Begins: what was read of an input; Answers: the reply to each input that begins so.
+-- Begins: what was read of an input; Answers: the reply to each input that begins so.
 use Rattle.std.specs.Prelude.{◌≡◌, List, ℕ, ◌≤◌, length, take}
 use Rattle.printing.specs.Promise.{ReplyPromise}
-use Rattle.run.specs.declared.Input.{Input}
-use Rattle.run.specs.declared.Input.TheVariants.{Bytes, Failed}
-
--- The bytes that were read stand in the buffer.
-abbrev pub Filled : List ℕ → Input → Type 0
-Filled start (Bytes n) = n ≤ length start
-Filled start Failed = Unit
 
 -- The first n bytes of the buffer are all of the input, or, where the input is longer than the buffer, as much of it as the buffer holds.
 abbrev pub Begins : List ℕ → ℕ → List ℕ → Type 0

@@ -3,45 +3,11 @@
 #![tactic(auto)]
 
 ghost use Rattle.std.specs.Prelude.{◌≤◌, length};
-ghost use Rattle.run.specs.Answers.{Filled, Answers};
+ghost use Rattle.run.specs.Answers.{Answers};
 
+use input::read_start;
 use std::io;
-use std::io::{Read, Write};
-
-// What reading came to: the number of bytes at the front of the buffer, or that a read failed.
-#[derive(Drop)]
-enum Input {
-    Bytes(usize),
-    Failed,
-}
-
-// One read, of at most as many bytes as the buffer holds.
-fn read_some<R: Read>(input: &mut R, rest: &mut [u8]) -> Input
-    ensures { Filled rest.new result }
-{
-    match input.read(rest) {
-        Ok(n) => Input::Bytes(n),
-        Err(_) => Input::Failed,
-    }
-}
-
-// Reads until the buffer is full or the input ends.
-fn read_start<R: Read>(input: &mut R, start: &mut [u8]) -> Input
-    ensures { Filled start.new result }
-{
-    let mut done: usize = 0;
-    while done < start.len() {
-        let some = read_some(input, &mut start[done..]);
-        let Input::Bytes(n) = some else {
-            return Input::Failed;
-        };
-        if n == 0 {
-            return Input::Bytes(done);
-        }
-        done += n;
-    }
-    Input::Bytes(done)
-}
+use std::io::Write;
 
 // The reply to an input of which the first n bytes of `start` were read.
 fn answer(start: &[u8], n: usize, out: &mut [u8]) -> usize
@@ -75,10 +41,9 @@ fn print_answer<O: Write, W: Write>(
 fn main(rt: HostRuntime) {
     let mut start = [0u8; 899];
     let mut errors = rt.stderr();
-    let input = read_start(&mut rt.stdin(), &mut start);
-    let told = match input {
-        Input::Bytes(n) => print_answer(&start, n, &mut rt.stdout(), &mut errors),
-        Input::Failed => Write::write_all(&mut errors, b"run: the input cannot be read\n"),
+    let told = match read_start(&mut rt.stdin(), &mut start) {
+        Ok(n) => print_answer(&start, n, &mut rt.stdout(), &mut errors),
+        Err(_) => Write::write_all(&mut errors, b"run: the input cannot be read\n"),
     };
     let _ = told;
 }

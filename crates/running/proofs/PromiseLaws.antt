@@ -1,14 +1,12 @@
 -- From what is read of the bytes and what the search says to the promise; and that the promise settles the reply.
 use mathlib.Core.Path.{◌≡◌, refl, sym, ◌∙◌, ap, subst}
-use mathlib.Core.Bool.{true, false}
-use mathlib.Core.List.{List, ◌++◌, append_assoc}
+use mathlib.Core.List.{List}
 use mathlib.Core.Logic.{inl, inr}
-use Prim.Native.Nat.{ℕ, suc, ◌+◌, ◌≤◌, ◌<◌}
+use Prim.Native.Nat.{ℕ, ◌≤◌, ◌<◌}
 use native.Mathlib.Decide.{dec_lt}
-use native.Mathlib.Numerals.{add-one}
 use native.Mathlib.Omega.{arith}
-use lib.ListN.{length, get_or, take, drop, set}
-use lib.Seq.{take-suc, drop-cons, set_at, length-take-le}
+use lib.ListN.{length, take}
+use Rattle.std.specs.Prelude.{Option, Some, None}
 use Rattle.model.specs.Case.{File, WellFormed, table_of, run_of}
 use Rattle.model.specs.Format.{read_file, Reading, refused, accepted}
 use Rattle.model.specs.Stored.{table_in, run_in}
@@ -16,24 +14,12 @@ use Rattle.model.specs.Replies.{RightListed, NoneRight, laid, SameButList}
 use Rattle.model.proofs.Accepted.{Bytes, accepted_file}
 use Rattle.model.proofs.Read.{clash, list_values}
 use Rattle.model.proofs.Settled.{NoOrList, refusals_alike, answers_alike}
-use Rattle.solving.specs.declared.search.Solution.{Solution}
 use Rattle.solving.specs.Searches.{Solves}
 use Rattle.casefile.specs.declared.Case.{Case}
 use Rattle.casefile.proofs.CaseFile.{CaseFile, case_count, case_table, case_run}
 use Rattle.running.specs.declared.Solved.{Solved}
 use Rattle.running.specs.declared.Solved.TheVariants.{Refused, No, Yes}
 use Rattle.running.specs.Promise.{Answered, RunPromise}
-
--- ---- the list in the buffer
-
--- One byte more of the list, in the buffer.
-pub laid_next : (list before : List ℕ) (i : ℕ) → i < length list → i < length before → set (take i list ++ drop i before) i (get_or list i 0) ≡ take (i + 1) list ++ drop (i + 1) before
-laid_next list before i h h' =
-    rw (drop-cons before i 0 h', add-one, take-suc list i 0 h, append_assoc)
-    (set_at (take i list) (get_or before i 0) (drop (suc i) before) (get_or list i 0) i (length-take-le i list (omega arith)))
-
-pub laid_all : (list before : List ℕ) (n : ℕ) → n ≤ length list → take n list ++ drop n before ≡ laid (take n list) before
-laid_all list before n h = ap (λ (k : ℕ). take n list ++ drop k before) (sym (length-take-le n list h))
 
 -- ---- what the search says of the words that were read, said of the file
 
@@ -42,7 +28,7 @@ module _ {file : List ℕ} {r : Case} (w : CaseFile file r) (b : Bytes file) whe
   case_formed = subst (λ T. WellFormed T (run_in r.run.count r.run.words)) (sym (case_table w b))
       (subst (WellFormed (table_of w.f.cells)) (sym (case_run w)) (accepted_file file w.f w.read).formed)
 
-  pub case_solved : (s : Solution) →
+  pub case_solved : (s : Option (List ℕ)) →
       Solves (table_in r.table.words) r.table.count (run_in r.run.count r.run.words) s →
       Solves (table_of w.f.cells) (length w.f.cells) (run_of w.f.events) s
   case_solved s h =
@@ -79,23 +65,24 @@ module _ (file before : List ℕ) where
       yes = λ g q. absurd (omega (arith, one_length q.read, q.room));
     }
 
-    module _ (room : length f.cells ≤ length before) (s : Solution) (w : Solves (table_of f.cells) (length f.cells) (run_of f.events) s) where
-      pub promise_no : s.yes ≡ false → RunPromise file before No before
-      promise_no e = record {
+    module _ (room : length f.cells ≤ length before) where
+      pub promise_no : Solves (table_of f.cells) (length f.cells) (run_of f.events) None → RunPromise file before No before
+      promise_no w = record {
         refused = λ n p i. clash (cc);
         short = λ g i h. absurd (omega (arith, one_length i));
         replied = λ g q. inl refl;
-        no = λ g q _. (subst NoneRight (one q.read) (w.none e), refl);
+        no = λ g q _. (subst NoneRight (one q.read) w.none, refl);
         yes = λ g q i. clash (cc);
       }
 
-      pub promise_yes : s.yes ≡ true → (after : List ℕ) → after ≡ laid (take (length f.cells) s.list) before → RunPromise file before (Yes (length f.cells)) after
-      promise_yes e after k = record {
+      pub promise_yes : (list : List ℕ) → Solves (table_of f.cells) (length f.cells) (run_of f.events) (Some list) → (after : List ℕ) → after ≡ laid (take (length f.cells) list) before →
+          RunPromise file before (Yes (length f.cells)) after
+      promise_yes list w after k = record {
         refused = λ n p i. clash (cc);
         short = λ g i h. absurd (omega (arith, one_length i));
         replied = λ g q. inr (ap Yes (one_length q.read));
         no = λ g q i. clash (cc);
-        yes = λ g q _. (take (length f.cells) s.list, subst (λ g. RightListed g (take (length f.cells) s.list)) (one q.read) (w.form e, w.right e), k);
+        yes = λ g q _. (take (length f.cells) list, subst (λ g. RightListed g (take (length f.cells) list)) (one q.read) (w.form, w.right), k);
       }
 
 -- ---- the promise, of the words that were read
@@ -107,18 +94,18 @@ module _ {file : List ℕ} {r : Case} (w : CaseFile file r) (before : List ℕ) 
   pub reply_short : length before < r.table.count → RunPromise file before (Refused 9 r.table.count) before
   reply_short = subst (λ n. length before < n → RunPromise file before (Refused 9 n) before) (sym (case_count w)) (promise_short file before w.f w.read)
 
-  module _ (b : Bytes file) (room : r.table.count ≤ length before) (s : Solution)
-      (h : Solves (table_in r.table.words) r.table.count (run_in r.run.count r.run.words) s) where
+  module _ (b : Bytes file) (room : r.table.count ≤ length before) where
     enough : length w.f.cells ≤ length before
     enough = omega (arith, case_count w)
 
-    pub reply_no : s.yes ≡ false → RunPromise file before No before
-    reply_no = promise_no file before w.f w.read enough s (case_solved w b s h)
+    pub reply_no : Solves (table_in r.table.words) r.table.count (run_in r.run.count r.run.words) None → RunPromise file before No before
+    reply_no h = promise_no file before w.f w.read enough (case_solved w b None h)
 
-    pub reply_yes : s.yes ≡ true → (after : List ℕ) → after ≡ laid (take r.table.count s.list) before → RunPromise file before (Yes r.table.count) after
-    reply_yes e after =
-        subst (λ n. after ≡ laid (take n s.list) before → RunPromise file before (Yes n) after) (sym (case_count w))
-        (promise_yes file before w.f w.read enough s (case_solved w b s h) e after)
+    pub reply_yes : (list : List ℕ) → Solves (table_in r.table.words) r.table.count (run_in r.run.count r.run.words) (Some list) →
+        (after : List ℕ) → after ≡ laid (take r.table.count list) before → RunPromise file before (Yes r.table.count) after
+    reply_yes list h after =
+        subst (λ n. after ≡ laid (take n list) before → RunPromise file before (Yes n) after) (sym (case_count w))
+        (promise_yes file before w.f w.read enough list (case_solved w b (Some list) h) after)
 
 -- ---- the promise settles the reply
 

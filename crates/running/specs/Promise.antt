@@ -1,4 +1,4 @@
--- What a run promises (document 01, "Run" and "Refusal numbers and their order"), for any bytes and any buffer. Assumes nothing.
+-- What a run promises, for any bytes and any buffer. Assumes nothing.
 -- Answered: the file is accepted and the buffer has room; RunPromise: the contract, a field for each sentence.
 use Rattle.std.specs.Prelude.{◌≡◌, List, ◌⊎◌, ℕ, ◌≤◌, ◌<◌, length}
 use Rattle.model.specs.Case.{File}

@@ -17,15 +17,11 @@ pub enum Solved {
 }
 
 // Lays the first n bytes of a list at the front of the buffer.
-fn write_list(list: [u8; 128], n: usize, out: &mut [u8])
+fn write_list(list: &[u8; 128], n: usize, out: &mut [u8])
     requires { (n ≤ 128) × (n ≤ length out.old) }
-    ensures { out.new ≡ laid (take n list) out.old }
+    ensures { out.new ≡ laid (take n list.now) out.old }
 {
-    let mut i: usize = 0;
-    while i < n {
-        out[i] = list[i];
-        i += 1;
-    }
+    out[..n].copy_from_slice(&list[..n]);
 }
 
 // Reads a case file and answers its run: any bytes, any buffer.
@@ -33,21 +29,17 @@ pub fn run(file: &[u8], out: &mut [u8]) -> Solved
     ensures { RunPromise file.now out.old result out.new }
 {
     let read = casefile::read_case(file);
-    let verdict = read.verdict;
-    if let Verdict::Refused(number, place) = verdict {
+    if let Verdict::Refused(number, place) = read.verdict {
         return Solved::Refused(number, place);
     }
-    let t = read.table;
-    let e = read.run;
-    let n = t.count;
+    let n = read.table.count;
     if out.len() < n {
         return Solved::Refused(9, n);
     }
-    let found = solving::search::solve(&t.words, n, &e.words, e.count);
-    if !found.yes {
+    let Some(list) = solving::search::solve(&read.table.words, n, &read.run.words, read.run.count)
+    else {
         return Solved::No;
-    }
-    let list = found.list;
-    write_list(list, n, out);
+    };
+    write_list(&list, n, out);
     Solved::Yes(n)
 }

@@ -1,5 +1,4 @@
 pub mod ListLaws
-pub mod PairLaws
 pub mod PlanLaws
 pub mod ChildLaws
 pub mod SearchLaws

@@ -3,11 +3,10 @@ use mathlib.Core.Path.{◌≡◌, sym, ◌∙◌, ap, subst}
 use mathlib.Core.Logic.{◌⊎◌, inl, inr}
 use mathlib.Core.List.{List}
 use mathlib.Core.Option.{some}
-use Prim.Native.Nat.{ℕ, ◌+◌, ◌≤◌, ◌<◌}
+use Prim.Native.Nat.{ℕ, ◌≤◌, ◌<◌}
 use native.Mathlib.Omega.{arith}
-use lib.ListN.{length, get_or, take, set, length-set}
-use lib.Seq.{get_or-take, get_or-set_same, get_or-set_other, length-take-le}
-use borrow.Author.Count.{below_more}
+use lib.ListN.{get_or, take}
+use lib.Seq.{get_or-take, length-take-le}
 use Rattle.model.specs.Message.{Message, atom}
 use Rattle.model.specs.Case.{VA, MK, Table, Run, look}
 use Rattle.model.specs.Values.{cell_of, Entry, Form, RightList}
@@ -20,20 +19,6 @@ use Rattle.theory.proofs.Answers.{τ-reads}
 use Rattle.theory.proofs.Step.{reply_yes}
 use Rattle.knowledge.specs.Knowledge.{ClassRow}
 use Rattle.solving.specs.Listing.{Valued, Entered, Listed}
-
--- ---- the loop
-
-module _ {T : Table} {n : ℕ} {rep : List ℕ} where
-  pub listed_none : {out : List ℕ} → length out ≡ 128 → Listed T n rep out 0
-  listed_none l = record { size = l; entries = λ c h. absurd (omega arith) }
-
-  pub listed_next : {out : List ℕ} {c x : ℕ} → c < 128 → Entered T n rep c x → Listed T n rep out c → Listed T n rep (set out c x) (c + 1)
-  listed_next {out} {c} {x} h e w = record {
-    size = length-set out c x ∙ w.size;
-    entries = below_more (λ d. Entered T n rep d (get_or (set out c x) d 0)) c
-        (λ d l. subst (Entered T n rep d) (sym (get_or-set_other out c d x 0 (λ q. omega arith))) (w.entries d l))
-        (subst (Entered T n rep c) (sym (get_or-set_same out c x 0 (omega (arith, w.size)))) e);
-  }
 
 -- ---- the list
 

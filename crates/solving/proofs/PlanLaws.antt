@@ -1,12 +1,13 @@
 -- The marks as the run goes on, what is tried at a step, and the plan of a step.
 use mathlib.Core.Path.{◌≡◌, refl, sym, ◌∙◌, ap, subst}
-use mathlib.Core.Bool.{Bool, true, false, true≢false}
+use mathlib.Core.Bool.{true≢false}
 use mathlib.Core.List.{List}
 use mathlib.Core.Option.{some}
 use Prim.Native.Nat.{ℕ, ◌+◌, ◌<◌}
 use native.Mathlib.Omega.{arith}
 use native.Mathlib.Decide.{dec_lt}
 use lib.ListN.{get_or}
+use Rattle.std.specs.Prelude.{Option, Some, None}
 use Rattle.model.specs.Case.{MK, LN, Table, Run, Part, Learnt}
 use Rattle.model.specs.Stored.{table_in, run_in, event_in, aim}
 use Rattle.model.proofs.Read.{clash}
@@ -19,7 +20,7 @@ use Rattle.theory.proofs.Rows.{rows_formed}
 use Rattle.theory.proofs.Sweep.{On as sideOn, opening_class, mark_later, mark_least}
 use Rattle.classes.specs.Kept.{Kept, Solved}
 use Rattle.classes.proofs.SolvedLaws.{solved_state}
-use Rattle.knowledge.specs.Knowledge.{ClassRow, MarkRow, Starts, Opened}
+use Rattle.knowledge.specs.Knowledge.{ClassRow, MarkRow, Starts}
 use Rattle.knowledge.specs.Sweeps.{OwnMarks}
 use Rattle.knowledge.specs.declared.Marks.{Marks}
 use Rattle.knowledge.proofs.ClassRows.{kept_row}
@@ -34,10 +35,9 @@ use Rattle.granting.specs.declared.grants.Grant.{Grant}
 use Rattle.granting.specs.Line.{Lacking, LineRow}
 use Rattle.granting.proofs.GrantLaws.{may_mays, still_granted, heard_none, heard_more, heard_make, heard_learn}
 use Rattle.solving.specs.declared.plan.Trial.{Trial}
-use Rattle.solving.specs.declared.plan.Chance.{Chance}
 use Rattle.solving.specs.declared.plan.Choice.{Choice}
 use Rattle.solving.specs.declared.plan.Stage.{Stage}
-use Rattle.solving.specs.Plans.{Exact, GrantedAt, Chosen, Tries, Better, Planned, Plans, Reopened, Costing, LineChance, StageRows, Staged, fresh_stage, FirstStage, HeardStage}
+use Rattle.solving.specs.Plans.{Exact, GrantedAt, Chosen, Tries, Better, Planned, Plans, Reopened, Costing, LineChance, StageRows, Staged, fresh_stage, FirstStage, MadeStage, HeardStage}
 
 -- ---- the marks as the run goes on
 
@@ -93,18 +93,6 @@ module _ {T : Table} {n : ℕ} {rep : List ℕ} (w : ClassRow n rep) {ev : Run} 
       built_marked = x.built_marked;
     }
 
--- Marks that are found, or were.
-pub reopened_found : {T : Table} {rep seens builts : List ℕ} {fresh : Bool} {r : Marks} → fresh ≡ false → Opened T rep seens r → Reopened T rep fresh seens builts r
-reopened_found e o = record {
-  seen_marked = o.seen_marked;
-  built_marked = o.built_marked;
-  exact = λ ev p st _. record { seen = o.seen ev p st; built = o.built ev p st; seen_marked = o.seen_marked; built_marked = o.built_marked };
-}
-
-pub reopened_fresh : {T : Table} {rep seens builts : List ℕ} {fresh : Bool} → fresh ≡ true → MarkRow rep seens → MarkRow rep builts →
-    Reopened T rep fresh seens builts (record { seen = seens; built = builts })
-reopened_fresh e u v = record { seen_marked = u; built_marked = v; exact = λ ev p st x. x e }
-
 -- What is to be made stands for its class, and is a cell of the table.
 pub lacking_goal : {n : ℕ} {T : Table} {rep builts : List ℕ} {t : ℕ} → Kept n T rep → (x : ℕ) → t ≡ class_at rep x → x < n → (On builts t → ⊥) → Lacking n rep builts t
 lacking_goal {n} {rep = rep} k x e h u = record {
@@ -123,9 +111,9 @@ aim_make count p run {x} told at =
 -- ---- what is tried at a position where what is to be made is not built
 
 -- A way down from the class of what is to be made.
-pub chosen_line : {T : Table} {n p t : ℕ} {rep run : List ℕ} {o : Marks} {g : Grant} {r : Chance} → t ≡ class_at rep (aim (event_in (get_or run p 0))) → LineChance T rep g t r →
-    BareTo T rep g.seen g.built g.bare n → Chosen T n rep o g run p r.trial
-chosen_line {T} {n} {rep = rep} {g = g} {r = r} e c b = Chosen.line (subst (λ (z : ℕ). LineRow T rep g.built z r.trial.want) e c.line)
+pub chosen_line : {T : Table} {n p t : ℕ} {rep run : List ℕ} {o : Marks} {g g' : Grant} {x : Trial} → t ≡ class_at rep (aim (event_in (get_or run p 0))) → LineChance T rep g t x g' →
+    BareTo T rep g.seen g.built g.bare n → Chosen T n rep o g run p x
+chosen_line {T} {n} {rep = rep} {g = g} {x = x} e c b = Chosen.line (subst (λ (z : ℕ). LineRow T rep g.built z x.want) e c.line)
     (subst (λ (l : List ℕ). BareTo T rep g.seen g.built l n) (sym c.bare) b)
 
 module _ {n : ℕ} {words rep : List ℕ} (w : TableWords n words) (s : Solved n (table_in words) rep) (count p : ℕ) (run : List ℕ)
@@ -154,50 +142,45 @@ module _ {n : ℕ} {words rep : List ℕ} (w : TableWords n words) (s : Solved n
 -- ---- plans
 
 module _ (T : Table) (rep : List ℕ) (ev : Run) where
-  planned_none : (pl : Choice) → pl.ready ≡ true → Planned T ev rep 0 pl
-  planned_none pl e = record { ready = λ i q t h. absurd (omega arith); tries = λ i. absurd (true≢false (sym e ∙ i)) }
+  planned_none : (pl : Option Choice) → pl ≡ None → Planned T ev rep 0 pl
+  planned_none None e = record { ready = λ q t h. absurd (omega arith); tries = tt }
+  planned_none (Some x) e = clash (cc)
 
-  module _ (p : ℕ) (best : Choice) (w : Planned T ev rep p best) where
+  module _ (p : ℕ) where
     -- A position where nothing is to be made.
-    planned_learn : (x : ℕ) → ev p ≡ some (LN x) → Planned T ev rep (p + 1) best
-    planned_learn x at = record {
-      ready = λ e q t h i. elim (dec_lt q p) [
-        | yes l ↦ w.ready e q t l i
+    planned_learn : (x : ℕ) → ev p ≡ some (LN x) → (best : Option Choice) → Planned T ev rep p best → Planned T ev rep (p + 1) best
+    planned_learn x at (Some c) w = record { ready = tt; tries = w.tries }
+    planned_learn x at None w = record {
+      ready = λ q t h i. elim (dec_lt q p) [
+        | yes l ↦ w.ready q t l i
         | no g ↦ (let z : q ≡ p = omega arith in clash (cc))
       ];
-      tries = w.tries;
+      tries = tt;
     }
 
     -- A position where what is to be made is built.
-    planned_built : (t : ℕ) → ev p ≡ some (MK t) → Mark T (class_at rep) ev p built t → Planned T ev rep (p + 1) best
-    planned_built t at k = record {
-      ready = λ e q s h i. elim (dec_lt q p) [
-        | yes l ↦ w.ready e q s l i
+    planned_built : (t : ℕ) → ev p ≡ some (MK t) → Mark T (class_at rep) ev p built t → (best : Option Choice) → Planned T ev rep p best → Planned T ev rep (p + 1) best
+    planned_built t at k (Some c) w = record { ready = tt; tries = w.tries }
+    planned_built t at k None w = record {
+      ready = λ q s h i. elim (dec_lt q p) [
+        | yes l ↦ w.ready q s l i
         | no g ↦ (
             let z : q ≡ p = omega arith in
             let y : s ≡ t = cc in
             subst (λ j. Mark T (class_at rep) ev j built s) (sym z) (subst (λ j. Mark T (class_at rep) ev p built j) (sym y) k))
       ];
-      tries = w.tries;
+      tries = tt;
     }
 
     -- A position where it is not.
-    planned_tries : {x : Trial} → Tries T ev rep x.want x.bare → {r : Choice} → Better best x r → Planned T ev rep (p + 1) r
-    planned_tries t {r} (Better.old n e) = record {
-      ready = λ i. absurd (true≢false (sym i ∙ (ap (λ c. c.ready) e ∙ n)));
-      tries = λ _. subst (λ c. Tries T ev rep c.want c.bare) (sym e) (w.tries n);
-    }
-    planned_tries {x} t {r} (Better.new n e j) = record {
-      ready = λ i. absurd (true≢false (sym i ∙ n));
-      tries = λ _. subst (Tries T ev rep r.want) (sym j) (subst (λ l. Tries T ev rep l x.bare) (sym e) t);
-    }
+    planned_tries : {best : Option Choice} → Planned T ev rep p best → {x : Trial} → Tries T ev rep x.want x.bare → {r : Choice} → Better best x r → Planned T ev rep (p + 1) (Some r)
+    planned_tries w t {r} (Better.old e) = record { ready = tt; tries = (subst (Planned T ev rep p) e w).tries }
+    planned_tries w t {r} (Better.new e) = record { ready = tt; tries = subst (λ y. Tries T ev rep y.want y.bare) (sym e) t }
 
--- A plan of all positions of the run.
-pub planned_all : (T : Table) (rep : List ℕ) (count : ℕ) (run : List ℕ) (pl : Choice) → Planned T (run_in count run) rep count pl → Plans T (run_in count run) rep pl
-planned_all T rep count run pl w = record { ready = λ e q t i. w.ready e q t (run_below count run q i) i; tries = w.tries }
-
-pub planned_enough : (T : Table) (rep : List ℕ) (ev : Run) (p : ℕ) (pl : Choice) → Planned T ev rep p pl → pl.ready ≡ false → Plans T ev rep pl
-planned_enough T rep ev p pl w n = record { ready = λ e. absurd (true≢false (sym e ∙ n)); tries = w.tries }
+-- A plan that is taken before the last position.
+pub planned_enough : {T : Table} {rep : List ℕ} {event : Run} {p : ℕ} (pl : Option Choice) (x : Choice) → pl ≡ Some x → Planned T event rep p pl → Plans T event rep pl
+planned_enough None x e w = clash (cc)
+planned_enough (Some y) x e w = record { ready = tt; tries = w.tries }
 
 -- ---- stages
 
@@ -221,7 +204,7 @@ module _ {n : ℕ} {words rep : List ℕ} (w : TableWords n words) (s : Solved n
   }
 
   module _ (count p : ℕ) (run : List ℕ) {y z : ℕ} (told : y ≡ aim (event_in (get_or run p 0))) (make : run_in count run p ≡ some (MK z)) {st : Stage}
-      (v : Staged T' n (run_in count run) rep p st) {o : Marks} (x : Reopened T' rep st.fresh st.seen st.built o) where
+      (v : Staged T' n (run_in count run) rep p st) {o : Marks} (x : Reopened T' rep st.fresh st.marks.seen st.marks.built o) where
     abbrev ev' : Run
     ev' = run_in count run
 
@@ -244,13 +227,13 @@ module _ {n : ℕ} {words rep : List ℕ} (w : TableWords n words) (s : Solved n
       zero = v.zero;
       own = v.own;
       kept = v.kept;
-      planned = planned_built T' rep ev' p st.best v.planned y at ((here.built y).0 b);
+      planned = planned_built T' rep ev' p y at ((here.built y).0 b) st.best v.planned;
     }
 
     -- An MK of what is not.
     pub staged_tries : (On o.built (class_at rep y) → ⊥) → {g g' : Grant} → Grants T' n rep run p st.grant.seen st.grant.built g.seen g.built →
         {t : Trial} → Chosen T' n rep o g run p t → Costing g g' → {r : Choice} → Better st.best t r →
-        Staged T' n ev' rep (p + 1) (fresh_stage st.dead o g' r)
+        Staged T' n ev' rep (p + 1) (fresh_stage st.dead o g' (Some r))
     staged_tries lacks {g} {g'} q c i b =
         let heard = heard_more rep ev' p st.grant.seen g.seen v.heard q.more.seen_kept in
         let kept : (d : ℕ) → On v.zero d → On g.built d = λ d j. q.more.built_kept d (v.kept d j) in
@@ -261,7 +244,7 @@ module _ {n : ℕ} {words rep : List ℕ} (w : TableWords n words) (s : Solved n
           zero = v.zero;
           own = v.own;
           kept = subst (λ s. (d : ℕ) → On v.zero d → On s d) (sym i.built) kept;
-          planned = planned_tries T' rep ev' p st.best v.planned
+          planned = planned_tries T' rep ev' p v.planned
               (chosen_tries w s count p run told at here lacks
               (record {
                 need = q.still.need;
@@ -271,14 +254,14 @@ module _ {n : ℕ} {words rep : List ℕ} (w : TableWords n words) (s : Solved n
               }) c) b;
         }
 
+-- A stage with another plan.
+abbrev pub with_best : Stage → Choice → Stage
+with_best j r = record { fresh = j.fresh; dead = j.dead; marks = j.marks; grant = j.grant; best = Some r }
+
 -- How many dead ends the position had says nothing of a stage.
 pub staged_dead : {T : Table} {n p d : ℕ} {ev : Run} {rep : List ℕ} {st : Stage} → Staged T n ev rep p st →
-    Staged T n ev rep p (record { fresh = st.fresh; dead = d; seen = st.seen; built = st.built; grant = st.grant; best = st.best })
+    Staged T n ev rep p (record { fresh = st.fresh; dead = d; marks = st.marks; grant = st.grant; best = st.best })
 staged_dead v = record { starts = v.starts; exact = v.exact; heard = v.heard; zero = v.zero; own = v.own; kept = v.kept; planned = v.planned }
-
-pub rows_dead : {T : Table} {n d : ℕ} {rep run : List ℕ} {st : Stage} → StageRows T n rep run st →
-    StageRows T n rep run (record { fresh = st.fresh; dead = d; seen = st.seen; built = st.built; grant = st.grant; best = st.best })
-rows_dead v = record { seen = v.seen; built = v.built; grant = v.grant }
 
 -- The rows of a first stage, of one whose marks are found, and of what is granted after an MK.
 pub rows_first : {T : Table} {n : ℕ} {rep run own : List ℕ} {st : Stage} → FirstStage own st → MarkRow rep own → StageRows T n rep run st
@@ -293,7 +276,7 @@ rows_first {rep = rep} f o = record {
   };
 }
 
-pub rows_fresh : {T : Table} {n d : ℕ} {rep run : List ℕ} {o : Marks} {g : Grant} {best : Choice} → MarkRow rep o.seen → MarkRow rep o.built → GrantRows T n rep run g →
+pub rows_fresh : {T : Table} {n d : ℕ} {rep run : List ℕ} {o : Marks} {g : Grant} {best : Option Choice} → MarkRow rep o.seen → MarkRow rep o.built → GrantRows T n rep run g →
     StageRows T n rep run (fresh_stage d o g best)
 rows_fresh s b g = record { seen = s; built = b; grant = g }
 
@@ -306,6 +289,16 @@ rows_made {T} {n} {rep} {run} {g} {g'} v i = record {
   bares = λ e. subst (λ s. BareTo T rep s g'.built g'.bare n) (sym i.seen) (subst (λ b. BareTo T rep g.seen b g'.bare n) (sym i.built)
       (subst (λ d. BareTo T rep g.seen g.built d n) (sym i.bare) (v.bares (sym i.calm ∙ e))));
 }
+
+-- An MK of what is not built: the stage j whose marks are found and to which what is tried is granted, with the better plan.
+pub made_tries : {n : ℕ} {words rep run : List ℕ} (w : TableWords n words) (s : Solved n (table_in words) rep) {p y : ℕ} (told : y ≡ aim (event_in (get_or run p 0)))
+    {st : Stage} {o : Marks} → Reopened (table_in words) rep st.fresh st.marks.seen st.marks.built o → (On o.built (class_at rep y) → ⊥) →
+    {g g' : Grant} → GrantRows (table_in words) n rep run g → Grants (table_in words) n rep run p st.grant.seen st.grant.built g.seen g.built →
+    {t : Trial} → Chosen (table_in words) n rep o g run p t → Costing g g' → {j : Stage} → j ≡ fresh_stage st.dead o g' st.best → {r : Choice} → Better j.best t r →
+    StageRows (table_in words) n rep run (with_best j r) × MadeStage (table_in words) n rep run p st (with_best j r)
+made_tries {n} {words} {rep} {run} w s {p} told {st} x lacks rows q {t} c i e {r} =
+    subst (λ (k : Stage). Better k.best t r → StageRows (table_in words) n rep run (with_best k r) × MadeStage (table_in words) n rep run p st (with_best k r)) (sym e)
+    (λ b. (rows_fresh x.seen_marked x.built_marked (rows_made rows i), λ count z at v. staged_tries w s count p run told at v x lacks q c i b))
 
 -- An LN: the rows, and what is known.
 module _ {rep : List ℕ} {x : ℕ} {st r : Stage} (h : HeardStage rep x st r) where
@@ -329,5 +322,5 @@ module _ {rep : List ℕ} {x : ℕ} {st r : Stage} (h : HeardStage rep x st r) w
     zero = v.zero;
     own = v.own;
     kept = subst (λ s. (d : ℕ) → On v.zero d → On s d) (sym h.had) v.kept;
-    planned = subst (Planned T ev rep (p + 1)) (sym h.best) (planned_learn T rep ev p st.best v.planned x at);
+    planned = subst (Planned T ev rep (p + 1)) (sym h.best) (planned_learn T rep ev p x at st.best v.planned);
   }

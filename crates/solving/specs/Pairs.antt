@@ -1,14 +1,14 @@
 -- The pairs of one step, in the order in which they are tried.
--- Mirrored, Pairs: which pairs; place: their order; NoPair, NextPair: the next one; ChildOf: the classes that the next pair gives.
-use Rattle.std.specs.Prelude.{◌≡◌, true, false, List, ℕ, ◌+◌, ◌*◌, ◌≤◌, ◌<◌}
+-- Mirrored, Pairs: which pairs; place: their order; InRow: the next one of a row; NoPair, NextPair: the next one; Joined: the classes with two cells in one; ChildOf: the classes that the next pair gives.
+use Rattle.std.specs.Prelude.{Option, Some, None, IfSome, IfNone, ◌≡◌, true, List, ℕ, ◌+◌, ◌*◌, ◌≤◌, ◌<◌}
 use Rattle.model.specs.Message.{Message}
 use Rattle.model.specs.Case.{Table, Reads}
 use Rattle.theory.specs.Cells.{class_at, On}
 use Rattle.theory.specs.Classes.{Sat}
 use Rattle.theory.specs.Level.{Kin}
 use Rattle.classes.specs.Kept.{Never, Solved, class_count}
-use Rattle.solving.specs.declared.pairs.Next.{Next}
-use Rattle.solving.specs.declared.pairs.Next.TheVariants as next
+use Rattle.classes.specs.Settle.{Unifies}
+use Rattle.granting.specs.declared.Place.{Place}
 use Rattle.solving.specs.declared.search.Child.{Child}
 
 -- The pair of c and d stands the other way round too, and earlier.
@@ -33,16 +33,26 @@ place c d = c * 128 + d
 abbrev pub NoPair : Table → ℕ → List ℕ → List ℕ → List ℕ → ℕ → ℕ → Type 0
 NoPair T n rep want bare from to = (c d : ℕ) → c < n → d < n → from ≤ place c d → place c d < to → Pairs T rep want bare c d → ⊥
 
+-- The first cell below n, from the cell `from` on, that is a pair with the cell c.
+abbrev pub InRow : Table → ℕ → List ℕ → List ℕ → List ℕ → ℕ → ℕ → Option ℕ → Type 0
+InRow T n rep want bare c from (Some d) = (from ≤ d) × (d < n) × Pairs T rep want bare c d × ((x : ℕ) → from ≤ x → x < d → Pairs T rep want bare c x → ⊥)
+InRow T n rep want bare c from None = (x : ℕ) → from ≤ x → x < n → Pairs T rep want bare c x → ⊥
+
 -- The first pair from the place `from` on.
-abbrev pub NextPair : Table → ℕ → List ℕ → List ℕ → List ℕ → ℕ → Next → Type 0
-NextPair T n rep want bare from (next.Pair c d) = (c < n) × (d < n) × (from ≤ place c d) × Pairs T rep want bare c d × NoPair T n rep want bare from (place c d)
-NextPair T n rep want bare from next.Nothing = (to : ℕ) → NoPair T n rep want bare from to
+abbrev pub NextPair : Table → ℕ → List ℕ → List ℕ → List ℕ → ℕ → Option Place → Type 0
+NextPair T n rep want bare from (Some p) = (p.c < n) × (p.d < n) × (from ≤ place p.c p.d) × Pairs T rep want bare p.c p.d × NoPair T n rep want bare from (place p.c p.d)
+NextPair T n rep want bare from None = (to : ℕ) → NoPair T n rep want bare from to
+
+-- The classes with those of the cells x and y in one; none, if no messages of the cells allow it.
+abbrev pub Joined : ℕ → Table → List ℕ → ℕ → ℕ → Option (List ℕ) → Type 0
+Joined n T rep x y (Some out) = Unifies n T rep x y (record { ok = true; rep = out })
+Joined n T rep x y None = Never T (class_at rep) x y
 
 -- The first pair from the place `from` on that can be made equal, if there is one, with the classes that it gives, and the place after it.
-pub record ChildOf (T : Table) (n : ℕ) (rep want bare : List ℕ) (from : ℕ) (r : Child) : Type 0 where
-  pub none : r.ok ≡ false → (c d : ℕ) → c < n → d < n → from ≤ place c d → Pairs T rep want bare c d → Never T (class_at rep) c d
-  pub solved : r.ok ≡ true → Solved n T r.rep
-  pub fewer : r.ok ≡ true → class_count r.rep < class_count rep
-  pub later : r.ok ≡ true → (from < place r.c r.d) × (r.c < n) × (r.d ≤ n)
-  pub passed : r.ok ≡ true → (c d : ℕ) → c < n → d < n → from ≤ place c d → place c d < place r.c r.d → Pairs T rep want bare c d →
-      (m : ℕ → Message) → Reads T m m → Sat (class_at rep) m → m c ≡ m d → Sat (class_at r.rep) m
+pub record ChildOf (T : Table) (n : ℕ) (rep want bare : List ℕ) (from : ℕ) (r : Option Child) : Type 0 where
+  pub none : IfNone r ((c d : ℕ) → c < n → d < n → from ≤ place c d → Pairs T rep want bare c d → Never T (class_at rep) c d)
+  pub solved : IfSome r λ x. Solved n T x.rep
+  pub fewer : IfSome r λ x. class_count x.rep < class_count rep
+  pub later : IfSome r λ x. (from < place x.after.c x.after.d) × (x.after.c < n) × (x.after.d ≤ n)
+  pub passed : IfSome r λ x. (c d : ℕ) → c < n → d < n → from ≤ place c d → place c d < place x.after.c x.after.d → Pairs T rep want bare c d →
+      (m : ℕ → Message) → Reads T m m → Sat (class_at rep) m → m c ≡ m d → Sat (class_at x.rep) m

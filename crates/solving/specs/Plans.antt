@@ -2,7 +2,7 @@
 -- Exact: rows that are the marks at a position; GrantedAt: rows that are granted there; Chosen: what is tried at a position; Tries: that it is enough; Better: the better of two;
 -- Planned, Plans: what a plan says, of the events before a position and of all; Reopened: marks found again; Costing: what is granted with other costs;
 -- LineChance: a way down that is tried; StageRows, Staged: what is known before a position; fresh_stage, FirstStage: stages that are made; MadeStage, HeardStage, Stepped: one event more.
-use Rattle.std.specs.Prelude.{◌≡◌, ◌↔◌, Bool, true, false, List, ℕ, ◌+◌, ◌<◌, get_or, replicate}
+use Rattle.std.specs.Prelude.{Option, Some, None, IfSome, IfNone, ◌≡◌, ◌↔◌, Bool, true, false, List, ℕ, ◌+◌, ◌<◌, get_or, replicate}
 use Rattle.std.proofs.Math.Option.{some}
 use Rattle.model.specs.Case.{MK, Table, Run, Learnt, WellFormed}
 use Rattle.model.specs.Stored.{run_in, event_in, aim}
@@ -19,7 +19,6 @@ use Rattle.granting.specs.Line.{LineRow}
 use Rattle.granting.specs.Grants.{GrantRows}
 use Rattle.granting.specs.declared.grants.Grant.{Grant}
 use Rattle.solving.specs.declared.plan.Trial.{Trial}
-use Rattle.solving.specs.declared.plan.Chance.{Chance}
 use Rattle.solving.specs.declared.plan.Choice.{Choice}
 use Rattle.solving.specs.declared.plan.Stage.{Stage}
 
@@ -46,20 +45,20 @@ pub data Chosen (T : Table) (n : ℕ) (rep : List ℕ) (o : Marks) (g : Grant) (
 abbrev pub Tries : Table → Run → List ℕ → List ℕ → List ℕ → Type 0
 Tries T ev rep want bare = WellFormed T ev → Enough T ev (class_at rep) (On want) (On bare)
 
--- The plan r is the plan `best`, which is not ready, or it tries x.
-pub data Better (best : Choice) (x : Trial) (r : Choice) : Type 0 where
-  old : best.ready ≡ false → r ≡ best → Better best x r
-  new : r.ready ≡ false → r.want ≡ x.want → r.bare ≡ x.bare → Better best x r
+-- The plan r is the plan `best`, or it tries x.
+pub data Better (best : Option Choice) (x : Trial) (r : Choice) : Type 0 where
+  old : best ≡ Some r → Better best x r
+  new : r.trial ≡ x → Better best x r
 
--- Ready: what is to be made before position `upto` is built there. Else what the plan tries is enough.
-pub record Planned (T : Table) (ev : Run) (rep : List ℕ) (upto : ℕ) (pl : Choice) : Type 0 where
-  pub ready : pl.ready ≡ true → (q t : ℕ) → q < upto → ev q ≡ some (MK t) → Mark T (class_at rep) ev q built t
-  pub tries : pl.ready ≡ false → Tries T ev rep pl.want pl.bare
+-- Without a plan: what is to be made before position `upto` is built there. Else what the plan tries is enough.
+pub record Planned (T : Table) (ev : Run) (rep : List ℕ) (upto : ℕ) (pl : Option Choice) : Type 0 where
+  pub ready : IfNone pl ((q t : ℕ) → q < upto → ev q ≡ some (MK t) → Mark T (class_at rep) ev q built t)
+  pub tries : IfSome pl λ x. Tries T ev rep x.trial.want x.trial.bare
 
 -- The same for all positions.
-pub record Plans (T : Table) (ev : Run) (rep : List ℕ) (pl : Choice) : Type 0 where
-  pub ready : pl.ready ≡ true → (q t : ℕ) → ev q ≡ some (MK t) → Mark T (class_at rep) ev q built t
-  pub tries : pl.ready ≡ false → Tries T ev rep pl.want pl.bare
+pub record Plans (T : Table) (ev : Run) (rep : List ℕ) (pl : Option Choice) : Type 0 where
+  pub ready : IfNone pl ((q t : ℕ) → ev q ≡ some (MK t) → Mark T (class_at rep) ev q built t)
+  pub tries : IfSome pl λ x. Tries T ev rep x.trial.want x.trial.bare
 
 -- The marks r are those at each position at which one may start from the marks seens; if fresh, where the rows seens and builts are the marks.
 pub record Reopened (T : Table) (rep : List ℕ) (fresh : Bool) (seens builts : List ℕ) (r : Marks) : Type 0 where
@@ -74,22 +73,22 @@ pub record Costing (g r : Grant) : Type 0 where
   pub built : r.built ≡ g.built
   pub bare : r.bare ≡ g.bare
 
--- A way down from t that is tried, with the cells that are bare by what is granted; of this only the costs differ.
-pub record LineChance (T : Table) (rep : List ℕ) (g : Grant) (t : ℕ) (r : Chance) : Type 0 where
-  pub line : LineRow T rep g.built t r.trial.want
-  pub bare : r.trial.bare ≡ g.bare
-  pub costs : Costing g r.grant
+-- A way down from t that is tried, with the cells that are bare by what is granted, g; of this only the costs differ in r.
+pub record LineChance (T : Table) (rep : List ℕ) (g : Grant) (t : ℕ) (x : Trial) (r : Grant) : Type 0 where
+  pub line : LineRow T rep g.built t x.want
+  pub bare : x.bare ≡ g.bare
+  pub costs : Costing g r
 
 -- The rows of a stage.
 pub record StageRows (T : Table) (n : ℕ) (rep run : List ℕ) (st : Stage) : Type 0 where
-  pub seen : MarkRow rep st.seen
-  pub built : MarkRow rep st.built
+  pub seen : MarkRow rep st.marks.seen
+  pub built : MarkRow rep st.marks.built
   pub grant : GrantRows T n rep run st.grant
 
 -- What is known before position p: marks to start from, or, if fresh, the marks; what is granted holds what is learnt, and his own name; a plan of the positions before.
 pub record Staged (T : Table) (n : ℕ) (ev : Run) (rep : List ℕ) (p : ℕ) (st : Stage) : Type 0 where
-  pub starts : Starts T rep ev p st.seen
-  pub exact : st.fresh ≡ true → Exact T rep ev p st.seen st.built
+  pub starts : Starts T rep ev p st.marks.seen
+  pub exact : st.fresh ≡ true → Exact T rep ev p st.marks.seen st.marks.built
   pub heard : (c : ℕ) → Learnt ev p c → On st.grant.seen (class_at rep c)
   pub zero : List ℕ
   pub own : OwnMarks n rep zero
@@ -97,18 +96,18 @@ pub record Staged (T : Table) (n : ℕ) (ev : Run) (rep : List ℕ) (p : ℕ) (s
   pub planned : Planned T ev rep p st.best
 
 -- A stage whose marks o are found.
-abbrev pub fresh_stage : ℕ → Marks → Grant → Choice → Stage
-fresh_stage dead o g best = record { fresh = true; dead = dead; seen = o.seen; built = o.built; grant = g; best = best }
+abbrev pub fresh_stage : ℕ → Marks → Grant → Option Choice → Stage
+fresh_stage dead o g best = record { fresh = true; dead = dead; marks = o; grant = g; best = best }
 
 -- The stage before the first event: nothing is learnt, the marks `own` are granted, and nothing is to be tried.
 pub record FirstStage (own : List ℕ) (st : Stage) : Type 0 where
   pub fresh : st.fresh ≡ false
   pub calm : st.grant.calm ≡ false
-  pub seen : st.seen ≡ replicate 129 0
-  pub built : st.built ≡ replicate 129 0
+  pub seen : st.marks.seen ≡ replicate 129 0
+  pub built : st.marks.built ≡ replicate 129 0
   pub lit : st.grant.seen ≡ replicate 129 0
   pub had : st.grant.built ≡ own
-  pub ready : st.best.ready ≡ true
+  pub ready : st.best ≡ None
 
 -- An MK takes the stage st before p to the stage r after it.
 abbrev pub MadeStage : Table → ℕ → List ℕ → List ℕ → ℕ → Stage → Stage → Type 0
@@ -117,8 +116,8 @@ MadeStage T n rep run p st r = (count x : ℕ) → run_in count run p ≡ some (
 
 -- An LN of the cell x takes st to r.
 pub record HeardStage (rep : List ℕ) (x : ℕ) (st r : Stage) : Type 0 where
-  pub seen : Learns rep st.seen x r.seen
-  pub built : r.built ≡ st.built
+  pub seen : Learns rep st.marks.seen x r.marks.seen
+  pub built : r.marks.built ≡ st.marks.built
   pub fresh : r.fresh ≡ false
   pub calm : r.grant.calm ≡ false
   pub lit : Learns rep st.grant.seen x r.grant.seen

@@ -21,9 +21,8 @@ use Rattle.grammar.proofs.Entering as entering
 use Rattle.grammar.proofs.Trees.{entered_append, completed_one, completed_two}
 use Rattle.grammar.proofs.Filed.{at_in, Where, old, where_at}
 use Rattle.typing.specs.declared.store.Store.{Store}
-use Rattle.typing.specs.declared.store.Put.{Put}
 use Rattle.typing.specs.declared.store.Items.{Items}
-use Rattle.typing.specs.Store.{In, Sound, Stored, fits, over, PutAt, Enters, no_items, with_item, Listed, whole, many, right_of, pairs_of, AllIn, PairsUp}
+use Rattle.typing.specs.Store.{In, Sound, Stored, fits, over, Put, PutAt, Enters, no_items, with_item, Listed, whole, many, right_of, pairs_of, AllIn, PairsUp}
 use Rattle.typing.specs.Readers.{Completes}
 use Rattle.typing.proofs.Trees.{entered_grows, grows_in, grows_place, entered_sound}
 use Rattle.typing.proofs.StoreLaws.{stored_full, full_entered}

@@ -1,12 +1,12 @@
 -- The bytes of records, written one after another, and the file of the entries kept.
 use mathlib.Core.Path.{◌≡◌, refl, sym, ◌∙◌, ap, subst}
-use mathlib.Core.List.{List, [], ◌∷◌, ◌++◌, map, append-nil, append_assoc}
-use Prim.Native.Nat.{ℕ, zero, suc, ◌+◌, ◌*◌, ◌/◌, ◌%◌, ◌≤◌, ◌<◌}
+use mathlib.Core.List.{List, [], ◌∷◌, ◌++◌, map}
+use Prim.Native.Nat.{ℕ, zero, suc, ◌+◌, ◌*◌, ◌≤◌, ◌<◌}
 use native.Mathlib.Omega.{arith}
 use native.Mathlib.Decide.{dec_lt}
 use native.Mathlib.Numerals.{add-one}
-use lib.ListN.{length, get_or, take, set, length-append}
-use lib.Seq.{sets, length-sets, take-suc, take-length}
+use lib.ListN.{length, get_or, take, length-append}
+use lib.Seq.{sets, take-suc, take-length}
 use Rattle.model.specs.Message.{App, Two}
 use Rattle.model.specs.Case as case
 use Rattle.model.specs.Case.{AT, VA, ONE, TWO, MK, LN}
@@ -15,11 +15,7 @@ use Rattle.model.specs.Stored.{table_in, event_in, aim}
 use Rattle.model.proofs.Listed.{elem_get_d, place_member, sets_append, sets_front}
 use Rattle.model.proofs.Rows.{event_word_lem}
 use Rattle.model.specs.Replies.{laid}
-use Rattle.cells.specs.Cells.{as_cell, as_event}
-use Rattle.cells.specs.declared.Cell.{Cell}
-use Rattle.cells.specs.declared.Cell.TheVariants as cell
-use Rattle.cells.specs.declared.Event.{Event}
-use Rattle.cells.specs.declared.Event.TheVariants as event
+use Rattle.records.proofs.Rows.{joined_last}
 use Rattle.grammar.specs.Typed.{name, Entry, tree_of}
 use Rattle.grammar.specs.Filed.{trees_of, cell_of, event_of, file_of}
 use Rattle.grammar.specs.Text.{said, Replied, short, written}
@@ -32,43 +28,6 @@ use Rattle.typing.specs.Reply.{Refused, Written}
 use Rattle.typing.proofs.TakeLaws.{cells_length, events_length, words_show}
 
 -- ---- one record
-pub set_two : (l : List ℕ) (at a b : ℕ) → set (set l at a) (at + 1) b ≡ sets l at (a ∷ b ∷ [])
-set_two l at a b = ap (λ i. set (set l at a) i b) (add-one at)
-
-pub set_three : (l : List ℕ) (at a b c : ℕ) → set (sets l at (a ∷ b ∷ [])) (at + 2) c ≡ sets l at (a ∷ b ∷ c ∷ [])
-set_three l at a b c = (let z : at + 2 ≡ suc (suc at) = omega arith in ap (λ i. set (sets l at (a ∷ b ∷ [])) i c) z)
-
-pub set_four : (l : List ℕ) (at a b c d : ℕ) → set (set (sets l at (a ∷ b ∷ [])) (at + 2) c) (at + 3) d ≡ sets l at (a ∷ b ∷ c ∷ d ∷ [])
-set_four l at a b c d =
-    let z : at + 3 ≡ suc (suc (suc at)) = omega arith in
-    ap (λ k. set k (at + 3) d) (set_three l at a b c) ∙ ap (λ i. set (sets l at (a ∷ b ∷ c ∷ [])) i d) z
-
-module _ {k : Cell} where
-  pub bytes_name : {n : ℕ} → k ≡ cell.Atom n → 65 ∷ 84 ∷ n / 256 ∷ n % 256 ∷ [] ≡ cell_bytes (as_cell k)
-  bytes_name e = rw e refl
-
-  pub bytes_variable : k ≡ cell.Variable → 86 ∷ 65 ∷ [] ≡ cell_bytes (as_cell k)
-  bytes_variable e = rw e refl
-
-  pub bytes_pair : {l r : ℕ} → k ≡ cell.Pair l r → 80 ∷ 82 ∷ l ∷ r ∷ [] ≡ cell_bytes (as_cell k)
-  bytes_pair e = rw e refl
-
-  pub bytes_seal : {b s : ℕ} → k ≡ cell.Seal b s → 83 ∷ 69 ∷ b ∷ s ∷ [] ≡ cell_bytes (as_cell k)
-  bytes_seal e = rw e refl
-
-  pub bytes_apply : {f a : ℕ} → k ≡ cell.Apply f a → 65 ∷ 80 ∷ f ∷ a ∷ [] ≡ cell_bytes (as_cell k)
-  bytes_apply e = rw e refl
-
-module _ {e : Event} where
-  pub bytes_make : {c : ℕ} → e ≡ event.Make c → 77 ∷ 75 ∷ c ∷ [] ≡ event_bytes (as_event e)
-  bytes_make z = rw z refl
-
-  pub bytes_learn : {c : ℕ} → e ≡ event.Learn c → 76 ∷ 78 ∷ c ∷ [] ≡ event_bytes (as_event e)
-  bytes_learn z = rw z refl
-
-pub sets_kept : (n : ℕ) (out after : List ℕ) (at : ℕ) (vs : List ℕ) → length out ≡ n → after ≡ sets out at vs → length after ≡ n
-sets_kept n out after at vs h e = ap length e ∙ (length-sets out at vs ∙ h)
-
 pub cell_size : (k : case.Cell) → length (cell_bytes k) ≤ 4
 cell_size (AT n) = omega arith
 cell_size VA = omega arith
@@ -77,15 +36,6 @@ cell_size (TWO Two.Pair l r) = omega arith
 cell_size (TWO Two.Seal b s) = omega arith
 
 -- ---- records in a row
-
-joined_append : {A : Type 0} (bytes : A → List ℕ) (l k : List A) → joined bytes (l ++ k) ≡ joined bytes l ++ joined bytes k
-unfolding joined
-joined_append bytes [] k = refl
-joined_append bytes (x ∷ l) k = ap (λ r. bytes x ++ r) (joined_append bytes l k) ∙ sym (append_assoc (bytes x) (joined bytes l) (joined bytes k))
-
-joined_last : {A : Type 0} (bytes : A → List ℕ) (l : List A) (x : A) → joined bytes (l ++ (x ∷ [])) ≡ joined bytes l ++ bytes x
-unfolding joined
-joined_last bytes l x = joined_append bytes l (x ∷ []) ∙ ap (λ r. joined bytes l ++ r) (append-nil (bytes x))
 
 module _ {A : Type 0} (bytes : A → List ℕ) (f : ℕ → A) where
   -- The records of the first n.

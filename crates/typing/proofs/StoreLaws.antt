@@ -4,13 +4,14 @@ use mathlib.Core.Logic.{inl, inr}
 use mathlib.Core.Bool.{Bool, true, false, cond}
 use mathlib.Core.List.Memᴰ
 use mathlib.Core.List.{List, [], ◌∷◌, ◌++◌, Memᴰ}
+use Rattle.std.specs.Prelude.{Some, None}
 use Prim.Native.Nat.{ℕ, ◌+◌, ◌≤◌, ◌<◌}
 use native.Mathlib.Omega.{arith}
 use native.Mathlib.Numerals.{add-one}
 use lib.Dec.{ltb}
 use lib.ListN.{length, get_or, set, drop, take, take-append-drop, length-set, drop_of_length-le}
 use lib.Seq.{get_or-set_same, get_or-set_other, drop-cons}
-use borrow.Author.Tests.{ltb-true, ltb-false, lt-ltb, le-ltb}
+use borrow.Author.Tests.{ltb-true, ltb-false}
 use Rattle.model.specs.Message.{App}
 use Rattle.model.specs.Case.{PR}
 use Rattle.model.specs.Stored.{word_of}
@@ -21,11 +22,8 @@ use Rattle.grammar.proofs.Trees.{enter_old, enter_new, enter_in, place_in, place
 use Rattle.grammar.proofs.Filed.{at_in, Where, old, past, where_at}
 use Rattle.grammar.proofs.Entering.{place_found}
 use Rattle.typing.specs.declared.store.Store.{Store}
-use Rattle.typing.specs.declared.store.Put.{Put}
 use Rattle.typing.specs.declared.store.Items.{Items}
-use Rattle.typing.specs.declared.store.Place.{Place}
-use Rattle.typing.specs.declared.store.Place.TheVariants as found
-use Rattle.typing.specs.Store.{In, Ready, Sound, none, new, key_of, WordsOf, Stored, fits, over, PutAt, FoundAt, added, Enters, with_item, or_full, Listed, whole, many, right_of, pairs_of, AllIn, PairsUp}
+use Rattle.typing.specs.Store.{In, Ready, Sound, none, new, key_of, WordsOf, Stored, fits, over, Put, put, PutAt, FoundAt, added, Enters, or_full, Listed, whole, many, right_of, pairs_of, AllIn, PairsUp}
 use Rattle.typing.proofs.Trees.{sound_grown, Grows, enter_grows, entered_grows, grows_in, grows_place, grows_length, sound_enter, sound_ready}
 use Rattle.typing.proofs.Keys.{key_same, key_grows}
 
@@ -94,31 +92,14 @@ module _ (s : Store) (word : ℕ) where
               let past : 128 ≤ s.count = ltb-false s.count 128 e in
               record { stored = subst (λ l. Stored l short) (sym after) (over refl (omega (arith, h.counts, size))); cell = λ x. true_false refl x }
 
-module _ (s : Store) (word : ℕ) (r : Place) (e : FoundAt s.words s.count word r) where
-  pub found_few : (c : ℕ) → r ≡ found.At c → c < 128
-  found_few c z = (subst (FoundAt s.words s.count word) z e).1
+module _ (s : Store) (word : ℕ) where
+  pub put_at : (c : ℕ) → FoundAt s.words s.count word (Some c) → Enters s word (put s c)
+  put_at c f = put_found s word c f.0 f.2
 
-  pub put_at : (c : ℕ) → r ≡ found.At c → Enters s word (record { store = s; cell = c })
-  put_at c z = (let f = subst (FoundAt s.words s.count word) z e in put_found s word c f.0 f.2)
-
-  pub put_nowhere : (p : Put) → r ≡ found.Nowhere → p ≡ added s word → Enters s word p
-  put_nowhere p z w = subst (Enters s word) (sym w) (put_new s word (subst (FoundAt s.words s.count word) z e))
-
--- The reply at a full table, and with room.
-pub added_full : (s : Store) (word : ℕ) → 128 ≤ s.count → ◌≡◌ {A = Put} (record { store = record { words = s.words; count = s.count; full = true }; cell = 0 }) (added s word)
-added_full s word h = rw (le-ltb s.count 128 h) refl
-
-pub added_room : (s : Store) (word : ℕ) → s.count < 128 →
-    ◌≡◌ {A = Put} (record { store = record { words = set s.words s.count word; count = s.count + 1; full = s.full }; cell = s.count }) (added s word)
-added_room s word h = rw (lt-ltb s.count 128 h) refl
+  pub put_nowhere : (p : Put) → FoundAt s.words s.count word None → p ≡ added s word → Enters s word p
+  put_nowhere p f w = subst (Enters s word) (sym w) (put_new s word f)
 
 -- ---- the pairs of a list
-
-pub item_many : (i : Items) (cell : ℕ) → 128 ≤ i.count → ◌≡◌ {A = Items} (record { cells = i.cells; count = i.count; more = true }) (with_item i cell)
-item_many i cell h = rw (le-ltb i.count 128 h) refl
-
-pub item_room : (i : Items) (cell : ℕ) → i.count < 128 → ◌≡◌ {A = Items} (record { cells = set i.cells i.count cell; count = i.count + 1; more = i.more }) (with_item i cell)
-item_room i cell h = rw (lt-ltb i.count 128 h) refl
 
 last_entered : (trees ts : List Typed) (t : Typed) → entered trees (ts ++ (t ∷ [])) ≡ enter (entered trees ts) t
 last_entered trees ts t = entered_append trees ts (t ∷ []) ∙ entered_one (entered trees ts) t

@@ -2,6 +2,7 @@
 use mathlib.Core.Path.{◌≡◌, refl, sym, ◌∙◌, ap, subst}
 use mathlib.Core.Logic.{◌⊎◌, inl, inr}
 use mathlib.Core.Bool.{true, false}
+use Rattle.std.specs.Prelude.{Result, Ok, Err}
 use mathlib.Core.List.Memᴰ
 use mathlib.Core.List.{List, [], ◌∷◌, ◌++◌, map, Memᴰ}
 use Prim.Native.Nat.{ℕ, ◌+◌, ◌≤◌, ◌<◌}
@@ -9,6 +10,10 @@ use native.Mathlib.Omega.{arith}
 use native.Mathlib.Decide.{dec_lt}
 use lib.ListN.{length, get_or, drop, set, replicate, length-set, length-replicate, get_or-append}
 use lib.Seq.{get_or-set_same, get_or-set_other, get_or_at}
+use Rattle.refusals.specs.declared.Fault.TheVariants.{TooMany as too_many, LooseVariable}
+use Rattle.refusals.specs.declared.Refusal.{Refusal}
+use Rattle.refusals.specs.Numbers.{number_of}
+use Rattle.refusals.proofs.Numbers.{fault_numbered}
 use Rattle.model.specs.Case.{VA, MK}
 use Rattle.model.specs.Stored.{event_word, aim, table_in, cell_in}
 use Rattle.model.proofs.Read.{clash}
@@ -21,7 +26,7 @@ use Rattle.grammar.specs.Typed.{Typed, name, variable, Entry, tree_of, Holds}
 use Rattle.grammar.specs.Grammar.{Line, learn, make, list_of, list_says, line_says}
 use Rattle.grammar.specs.Filed.{completed, completions, entered, trees_of, place, cell_of, event_of, file_of, TooMany, is_loose}
 use Rattle.grammar.specs.Text as text
-use Rattle.grammar.specs.Text.{refused, said, Told}
+use Rattle.grammar.specs.Text.{refused, said, Told, TextReply, refusal}
 use Rattle.grammar.specs.Reader.{Finds, reads, read, line}
 use Rattle.grammar.proofs.ReadLines.{told_end, told_wrong, told_deep, told_many, told_loose, told_line}
 use Rattle.grammar.proofs.Trees.{in?, place_in, trees_snoc, tree_in}
@@ -30,19 +35,13 @@ use Rattle.grammar.proofs.Taken.{tied_backed}
 use Rattle.grammar.proofs.Entering.{list_small, events_more}
 use Rattle.typing.specs.declared.store.Store.{Store}
 use Rattle.typing.specs.declared.line.Lines.{Lines}
-use Rattle.typing.specs.declared.line.LineFound.TheVariants as found
-use Rattle.typing.specs.declared.line.LineReading.{LineReading}
-use Rattle.typing.specs.declared.line.Verdict.TheVariants as verdict
-use Rattle.typing.specs.declared.line.Outcome.{Outcome}
 use Rattle.typing.specs.Store.{In, Sound, none, WordsOf, Stored, fits, over, PutAt}
-use Rattle.typing.specs.Lines.{event_for, Entering, Kept, LooseSays, with_event, LineFoundAs, FindsLine, LineSays, Taken, LineRead}
+use Rattle.typing.specs.Readers.{Misread, wrong_byte, too_deep}
+use Rattle.typing.specs.Reply.{Refused, Written}
+use Rattle.typing.specs.Lines.{event_for, Entering, Kept, LooseSays, with_event, LineFoundAs, LineSays, Taken, LineRead}
 use Rattle.typing.proofs.Trees.{sound_grown, entered_grows, grows_place, sound_ready, entered_sound}
 use Rattle.typing.proofs.Keys.{key_cell, variable_cell}
 use Rattle.typing.proofs.Variables.{entered_from, grows_new, holds_in, completed_holds}
-
-pub event_added : (lines : Lines) (s : Store) (e : Event) (w : ℕ) → w ≡ event_word (as_event e) →
-    ◌≡◌ {A = Lines} (record { store = s; run = set lines.run lines.events w; events = lines.events + 1 }) (with_event lines s e)
-event_added lines s e w z = ap (λ x. record { store = s; run = set lines.run lines.events x; events = lines.events + 1 }) z
 
 length_map : {A B : Type 0} (f : A → B) (l : List A) → length (map f l) ≡ length l
 length_map f [] = refl
@@ -193,7 +192,7 @@ module _ (es : List Entry) (lines : Lines) (k : Kept es lines) (l : Line) (store
 
 -- By the event and the line.
 module _ (es : List Entry) (lines : Lines) (k : Kept es lines) where
-  pub loose_yes : (l : Line) (store : Store) (e : Event) → Entering lines.store l store e → store.full ≡ false → LooseSays lines store e true → is_loose es (line_says l) ≡ true
+  pub loose_yes : (l : Line) (store : Store) (e : Event) → Entering lines.store l store e → store.full ≡ false → LooseSays lines.store.count store e true → is_loose es (line_says l) ≡ true
   loose_yes l store (event.Make c) n f s = true_false refl s
   loose_yes (make l) store (event.Learn c) n f s = (let z = n.event in clash (cc))
   loose_yes (learn l) store (event.Learn c) n f s = elim (bool? (is_loose es (Entry.learn (list_says l)))) [
@@ -201,7 +200,7 @@ module _ (es : List Entry) (lines : Lines) (k : Kept es lines) where
     | inr e ↦ absurd (fresh_loose es lines k (learn l) store (event.Learn c) n f (s.yes refl) ((tied_backed es (list_says l)).0 e))
   ]
 
-  pub loose_no : (l : Line) (store : Store) (e : Event) → Entering lines.store l store e → store.full ≡ false → LooseSays lines store e false → is_loose es (line_says l) ≡ false
+  pub loose_no : (l : Line) (store : Store) (e : Event) → Entering lines.store l store e → store.full ≡ false → LooseSays lines.store.count store e false → is_loose es (line_says l) ≡ false
   loose_no (make l) store e n f s = refl
   loose_no (learn l) store (event.Make c) n f s = (let z = n.event in clash (cc))
   loose_no (learn l) store (event.Learn c) n f s = (tied_backed es (list_says l)).1 (none_backed es lines k (learn l) store (event.Learn c) n f (s.no refl))
@@ -221,31 +220,36 @@ kept_none = record {
   made = λ n h. absurd (Memᴰ.not-nil h);
 }
 
-module _ (s : List ℕ) (at : ℕ) (h : at < length s) (lines : Lines) (r : LineReading) (f : FindsLine s at lines.store r) where
-  pub read_wrong : (p : ℕ) → r.found ≡ found.Wrong p → LineRead s at lines (record { verdict = verdict.Refused 11 p; lines = lines })
-  read_wrong p e es k = told_wrong s at es p h (subst (λ x. LineFoundAs s at lines.store x r.store) e f)
+-- The lines with the cells of a further one entered.
+abbrev with_store : Lines → Store → Lines
+with_store lines store = record { store = store; run = lines.run; events = lines.events }
 
-  pub read_deep : (p : ℕ) → r.found ≡ found.Deep p → LineRead s at lines (record { verdict = verdict.Refused 12 p; lines = lines })
-  read_deep p e es k = told_deep s at es p h (subst (λ x. LineFoundAs s at lines.store x r.store) e f)
+module _ (s : List ℕ) (at : ℕ) (h : at < length s) (lines : Lines) (store : Store) where
+  pub read_misread : (r : Refusal) (next : Lines) → Misread line s at r → LineRead s at lines (Err r) next
+  read_misread _ next (wrong_byte p f) es k = told_wrong s at es p h f
+  read_misread _ next (too_deep p f) es k = told_deep s at es p h f
 
-  pub read_taken : (to : ℕ) (e : Event) (o : Outcome) → r.found ≡ found.Line to e → Taken lines r.store e at to o → LineRead s at lines o
-  read_taken to e o z t es k = (let (l, g, n) = subst (λ x. LineFoundAs s at lines.store x r.store) z f in t s es l k g n)
+  pub read_taken : (to : ℕ) (e : Event) → LineFoundAs s at lines.store (Ok (to, e)) store → (r : Result ℕ Refusal) (next : Lines) → Taken (with_store lines store) lines.store.count e at to r next → LineRead s at lines r next
+  read_taken to e (l, g, n) r next t es k = t s es l lines.store refl k g n
 
-module _ (lines : Lines) (store : Store) (e : Event) (at to : ℕ) where
-  pub take_full : store.full ≡ true → Taken lines store e at to (record { verdict = verdict.Refused 4 at; lines = lines })
-  take_full f s es l k g n = told_many s at es l to g (many_full es lines k l store e n f)
+module _ (lines : Lines) (from : ℕ) (e : Event) (at to : ℕ) where
+  pub take_full : lines.store.full ≡ true → (next : Lines) → Taken lines from e at to (Err (record { fault = too_many; place = at })) next
+  take_full f next s es l before c k g n = told_many s at es l to g (many_full es (with_store lines before) k l lines.store e n f)
 
-  pub take_many : 128 ≤ lines.events → Taken lines store e at to (record { verdict = verdict.Refused 4 at; lines = lines })
-  take_many h s es l k g n = told_many s at es l to g (many_events es lines k l store e n h)
+  pub take_many : 128 ≤ lines.events → (next : Lines) → Taken lines from e at to (Err (record { fault = too_many; place = at })) next
+  take_many h next s es l before c k g n = told_many s at es l to g (many_events es (with_store lines before) k l lines.store e n h)
 
-  module _ (f : store.full ≡ false) (room : lines.events < 128) where
-    pub take_loose : LooseSays lines store e true → Taken lines store e at to (record { verdict = verdict.Refused 6 at; lines = lines })
-    take_loose x s es l k g n = told_loose s at es l to g (not_many es lines k l store e n f room) (loose_yes es lines k l store e n f x)
+  module _ (f : lines.store.full ≡ false) (room : lines.events < 128) where
+    pub take_loose : LooseSays from lines.store e true → (next : Lines) → Taken lines from e at to (Err (record { fault = LooseVariable; place = at })) next
+    take_loose x next s es l before c k g n =
+        told_loose s at es l to g (not_many es (with_store lines before) k l lines.store e n f room)
+        (loose_yes es (with_store lines before) k l lines.store e n f (subst (λ i. LooseSays i lines.store e true) (sym c) x))
 
-    pub take_line : LooseSays lines store e false → (next : Lines) → next ≡ with_event lines store e → Taken lines store e at to (record { verdict = verdict.Next to; lines = next })
-    take_line x next z s es l k g n =
-        let tied = loose_no es lines k l store e n f x in
-        (l, g, not_many es lines k l store e n f room, tied, subst (Kept (es ++ (line_says l ∷ []))) (sym z) (kept_next es lines k l store e n f room tied))
+    pub take_line : LooseSays from lines.store e false → (next : Lines) → next ≡ with_event lines lines.store e → Taken lines from e at to (Ok to) next
+    take_line x next z s es l before c k g n =
+        let was = with_store lines before in
+        let tied = loose_no es was k l lines.store e n f (subst (λ i. LooseSays i lines.store e false) (sym c) x) in
+        (l, g, not_many es was k l lines.store e n f room, tied, subst (Kept (es ++ (line_says l ∷ []))) (sym z) (kept_next es was k l lines.store e n f room tied))
 
 -- ---- the text
 
@@ -262,18 +266,20 @@ line_behind : {s : List ℕ} {at to : ℕ} (l : Line) → Finds line s at (read 
 line_behind (learn l) (reads _ _ r h) = omega (arith, r.end)
 line_behind (make l) (reads _ _ r h) = omega (arith, r.end)
 
-module _ (s : List ℕ) (lines : Lines) (at : ℕ) (a : TextAt s lines at) (r : Outcome) (f : LineRead s at lines r) where
-  pub text_refused : (n p : ℕ) → r.verdict ≡ verdict.Refused n p → Told [] 0 s (refused n p)
-  text_refused n p e = a.tells (refused n p) (subst (λ v. LineSays s at a.entries v r.lines) e (f a.entries a.kept))
+module _ (s : List ℕ) (lines : Lines) (at : ℕ) (a : TextAt s lines at) (after : Lines) where
+  pub text_refused : (before : List ℕ) (r : Refusal) → LineRead s at lines (Err r) after → TextReply Refused Written s before (Err r) before
+  text_refused before r f =
+      let e : Refused (number_of r.fault) r.place ≡ Err r = ap (λ x. Err (record { fault = x; place = r.place })) (fault_numbered r.fault) in
+      subst (λ x. TextReply Refused Written s before x before) e (record { outcome = refused _ _; told = a.tells (refused (number_of r.fault) r.place) (f a.entries a.kept); replied = refusal _ _ })
 
-  module _ (to : ℕ) (e : r.verdict ≡ verdict.Next to) where
-    took : LineSays s at a.entries (verdict.Next to) r.lines
-    took = subst (λ v. LineSays s at a.entries v r.lines) e (f a.entries a.kept)
+  module _ (to : ℕ) (f : LineRead s at lines (Ok to) after) where
+    took : LineSays s at a.entries (Ok to) after
+    took = f a.entries a.kept
 
     pub text_behind : at < to
     text_behind = line_behind took.0 took.1
 
-    pub text_next : TextAt s r.lines to
+    pub text_next : TextAt s after to
     text_next = record { entries = a.entries ++ (line_says took.0 ∷ []); kept = took.4; tells = λ o t. a.tells o (told_line s at a.entries took.0 to took.1 o took.2 took.3 t) }
 
 pub text_end : (s : List ℕ) (lines : Lines) (at : ℕ) (a : TextAt s lines at) → length s ≤ at → Told [] 0 s (said a.entries)

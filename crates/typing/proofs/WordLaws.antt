@@ -1,30 +1,26 @@
 -- What the readers of words and lines find, return by return.
 use mathlib.Core.Path.{◌≡◌, refl, sym, ◌∙◌, ap, subst}
 use mathlib.Core.List.{List, ◌∷◌}
+use Rattle.std.specs.Prelude.{Ok, Err}
 use Prim.Native.Nat.{ℕ, zero, suc, ◌+◌, ◌≤◌, ◌<◌}
 use native.Mathlib.Omega.{arith}
 use native.Mathlib.Decide.{dec_lt}
 use lib.ListN.{length, get_or, drop, take, drop_of_length-le}
 use lib.Seq.{get_or-drop}
 use Rattle.model.proofs.Read.{clash}
-use Rattle.grammar.specs.Grammar.{Line, nested, list_says}
+use Rattle.grammar.specs.Grammar.{Line, nested}
 use Rattle.grammar.specs.Reader.{Runs, Finds, reads, read, wrong, list, line, token}
 use Rattle.grammar.proofs.Phrases.{Has}
 use Rattle.grammar.proofs.ReadLines as lines
 use Rattle.grammar.proofs.ReadLines.{initial, word_none, word_more, word_stuck, word_reads, line_none, line_unread, line_wrong, line_deep, line_open, line_reads}
+use Rattle.refusals.specs.declared.Refusal.{Refusal}
+use Rattle.cells.specs.declared.Event.{Event}
 use Rattle.typing.specs.declared.store.Store.{Store}
-use Rattle.typing.specs.declared.message.How.{How}
-use Rattle.typing.specs.declared.message.How.TheVariants as how
-use Rattle.typing.specs.declared.message.Reading.{Reading}
 use Rattle.typing.specs.declared.line.Word.{Word}
 use Rattle.typing.specs.declared.line.Word.TheVariants as word
-use Rattle.typing.specs.declared.line.Spelt.{Spelt}
-use Rattle.typing.specs.declared.line.Spelt.TheVariants as spelt
-use Rattle.typing.specs.declared.line.LineFound.{LineFound}
-use Rattle.typing.specs.declared.line.LineFound.TheVariants as found
-use Rattle.typing.specs.Readers.{PhraseFound, ListRead, wrong_at}
-use Rattle.typing.specs.Lines.{Matched, spelling, WordRead, found_for, LineFoundAs, RestRead, FindsLine}
-use Rattle.typing.proofs.MessageLaws.{Byte, byte_has, byte_misses}
+use Rattle.typing.specs.Readers.{wrong_at, Misread, PastByte, ListRead}
+use Rattle.typing.specs.Lines.{Matched, spelling, WordRead, event_of, found_for, LineFoundAs, RestRead}
+use Rattle.typing.proofs.MessageLaws.{Byte, byte_has, byte_misses, misread_wrong, misread_part}
 
 -- ---- bytes of a word
 module _ (s : List ℕ) (at : ℕ) (w : List ℕ) where
@@ -34,18 +30,9 @@ module _ (s : List ℕ) (at : ℕ) (w : List ℕ) where
     pub within : at + i ≤ length s
     pub runs : Runs s at (at + i) (nested 0 (take i w))
 
-  pub matching_none : at ≤ length s → Matching 0
-  matching_none h = record { short = omega arith; within = omega arith; runs = word_none s at w }
-
   module _ (i : ℕ) (m : Matching i) where
     pub matching_more : i < length w → Byte s (at + i) (get_or w i 0) → Matching (i + 1)
     matching_more h b = record { short = omega arith; within = omega (arith, b.0); runs = word_more s at w i h m.runs (byte_has s (at + i) (get_or w i 0) b) }
-
-    pub matched_stop : (Byte s (at + i) (get_or w i 0) → ⊥) → Matched s at w i
-    matched_stop n = record { short = m.short; within = m.within; runs = m.runs; stops = λ h. n }
-
-    pub matched_all : length w ≤ i → Matched s at w i
-    matched_all h = record { short = m.short; within = m.within; runs = m.runs; stops = λ l. absurd (omega arith) }
 
 -- ---- words
 
@@ -69,81 +56,67 @@ module _ (s : List ℕ) (at : ℕ) where
   make_first zero h m = absurd (omega arith)
   make_first (suc r) h m = byte_has s at 109 (first_byte s at 109 _ m.bytes)
 
-  pub word_learn : (r : ℕ) → Matched s at (spelling word.Learn) r → r ≡ 6 → WordRead s at (spelt.Word word.Learn (at + 6))
+  pub word_learn : (r : ℕ) → Matched s at (spelling word.Learn) r → r ≡ 6 → WordRead s at (Ok (word.Learn, at + 6))
   word_learn r m e = (word_reads s at (spelling word.Learn) (subst (λ x. Runs s at (at + x) (nested 0 (take x (spelling word.Learn)))) e m.runs), omega (arith, m.within))
 
-  pub word_make : (r : ℕ) → Matched s at (spelling word.Make) r → r ≡ 5 → WordRead s at (spelt.Word word.Make (at + 5))
+  pub word_make : (r : ℕ) → Matched s at (spelling word.Make) r → r ≡ 5 → WordRead s at (Ok (word.Make, at + 5))
   word_make r m e = (word_reads s at (spelling word.Make) (subst (λ x. Runs s at (at + x) (nested 0 (take x (spelling word.Make)))) e m.runs), omega (arith, m.within))
 
-  pub word_stops_make : (r : ℕ) → Matched s at (spelling word.Make) r → (r ≡ 5 → ⊥) → (r ≡ 0 → ⊥) → WordRead s at (spelt.Wrong (at + r))
-  word_stops_make r m n z =
+  pub word_stops_make : (q : Refusal) (r : ℕ) → q ≡ wrong_at (at + r) → Matched s at (spelling word.Make) r → (r ≡ 5 → ⊥) → (r ≡ 0 → ⊥) → Misread line s at q
+  word_stops_make q r e m n z =
       let h : r < 5 = omega (arith, m.short) in
-      line_unread s at lines.Word.Make (make_first r (omega arith) m.runs) (at + r)
-      (word_stuck s at (spelling word.Make) r h m.runs (byte_misses s (at + r) (get_or (spelling word.Make) r 0) (m.stops h)))
+      misread_wrong line s at (at + r) q e
+      (line_unread s at lines.Word.Make (make_first r (omega arith) m.runs) (at + r)
+      (word_stuck s at (spelling word.Make) r h m.runs (byte_misses s (at + r) (get_or (spelling word.Make) r 0) (m.stops h))))
 
-  pub word_stops_learn : (r k : ℕ) → Matched s at (spelling word.Learn) r → (r ≡ 6 → ⊥) → Matched s at (spelling word.Make) k → k ≡ 0 → WordRead s at (spelt.Wrong (at + r))
-  word_stops_learn zero k m n q z =
+  stops_learn : (r k : ℕ) → Matched s at (spelling word.Learn) r → (r ≡ 6 → ⊥) → Matched s at (spelling word.Make) k → k ≡ 0 → Finds line s at (wrong (at + r))
+  stops_learn zero k m n q z =
       let y : at ≡ at + 0 = omega arith in
       subst (λ x. Finds line s at (wrong x)) y
       (line_none s at (byte_misses s at 108 (λ b. m.stops (omega arith) (subst (λ x. Byte s x 108) y b)))
       (byte_misses s at 109 (λ b. (subst (Matched s at (spelling word.Make)) z q).stops (omega arith) (subst (λ x. Byte s x 109) y b))))
-  word_stops_learn (suc r) k m n q z =
+  stops_learn (suc r) k m n q z =
       let h : suc r < 6 = omega (arith, m.short) in
       line_unread s at lines.Word.Learn (learn_first (suc r) (omega arith) m.runs) (at + suc r)
       (word_stuck s at (spelling word.Learn) (suc r) h m.runs (byte_misses s (at + suc r) (get_or (spelling word.Learn) (suc r) 0) (m.stops h)))
 
+  pub word_stops_learn : (q : Refusal) (r k : ℕ) → q ≡ wrong_at (at + r) → Matched s at (spelling word.Learn) r → (r ≡ 6 → ⊥) → Matched s at (spelling word.Make) k → k ≡ 0 → Misread line s at q
+  word_stops_learn q r k e m n x z = misread_wrong line s at (at + r) q e (stops_learn r k m n x z)
+
 -- ---- what stands behind the word
 
-module _ (s : List ℕ) (at : ℕ) (before : Store) (r : Reading) (f : ListRead s at 0 before r) where
+module _ (s : List ℕ) (at : ℕ) where
   starts : (w : Word) (i : ℕ) → Finds (token 0 (spelling w)) s i (read tt at) → Has s i (initial (as_word w))
   starts word.Learn i (reads _ _ r h) = byte_has s i 108 (first_byte s i 108 _ r.bytes)
   starts word.Make i (reads _ _ r h) = byte_has s i 109 (first_byte s i 109 _ r.bytes)
 
-  pub rest_else : ((x y : ℕ) → r.how ≡ how.Read x y → ⊥) → RestRead s at before r
-  rest_else t w i g = go w g (starts w i g) r.how t f
+  pub rest_else : (before after : Store) (r : Refusal) → Misread (list 0) s at r → RestRead s at before (Err r) after
+  rest_else before after r m w i g = go w g (starts w i g)
     where
-      go : (w : Word) → Finds (token 0 (spelling w)) s i (read tt at) → Has s i (initial (as_word w)) → (h : How) → ((x y : ℕ) → h ≡ how.Read x y → ⊥) →
-          PhraseFound (list 0) list_says s at before h r.store → LineFoundAs s i before (found_for w h) r.store
-      go w g a (how.Read to cell) k x = absurd (k to cell refl)
-      go word.Learn g a (how.Wrong p) k x = line_wrong s i lines.Word.Learn a at g p x
-      go word.Make g a (how.Wrong p) k x = line_wrong s i lines.Word.Make a at g p x
-      go word.Learn g a (how.Deep p) k x = line_deep s i lines.Word.Learn a at g p x
-      go word.Make g a (how.Deep p) k x = line_deep s i lines.Word.Make a at g p x
+      go : (w : Word) → Finds (token 0 (spelling w)) s i (read tt at) → Has s i (initial (as_word w)) → Misread line s i r
+      go word.Learn g a = misread_part line s i (list 0) at r m (λ p x. line_wrong s i lines.Word.Learn a at g p x) (λ p x. line_deep s i lines.Word.Learn a at g p x)
+      go word.Make g a = misread_part line s i (list 0) at r m (λ p x. line_wrong s i lines.Word.Make a at g p x) (λ p x. line_deep s i lines.Word.Make a at g p x)
 
-  module _ (to cell : ℕ) (e : r.how ≡ how.Read to cell) where
-    got : PhraseFound (list 0) list_says s at before (how.Read to cell) r.store
-    got = subst (λ x. PhraseFound (list 0) list_says s at before x r.store) e f
-
-    pub rest_stuck : (q : Reading) → q ≡ wrong_at to r.store → (Byte s to 10 → ⊥) → RestRead s at before q
-    rest_stuck q z n w i g = subst (λ (x : Reading). LineFoundAs s i before (found_for w x.how) x.store) (sym z) (go w g (starts w i g))
+  module _ (before after : Store) (to cell : ℕ) (got : ListRead s at 0 before (Ok (to, cell)) after) where
+    pub rest_stuck : (r : Refusal) → PastByte s to 10 (Err r) → RestRead s at before (Err r) after
+    rest_stuck r (n, e) w i g = misread_wrong line s i to r e (go w g (starts w i g))
       where
-        go : (w : Word) → Finds (token 0 (spelling w)) s i (read tt at) → Has s i (initial (as_word w)) → LineFoundAs s i before (found_for w (how.Wrong to)) r.store
+        go : (w : Word) → Finds (token 0 (spelling w)) s i (read tt at) → Has s i (initial (as_word w)) → Finds line s i (wrong to)
         go word.Learn g a = line_open s i lines.Word.Learn a at g to got.0 got.1 (byte_misses s to 10 n)
         go word.Make g a = line_open s i lines.Word.Make a at g to got.0 got.1 (byte_misses s to 10 n)
 
-    pub rest_done : Byte s to 10 → RestRead s at before (record { how = how.Read (to + 1) cell; store = r.store })
-    rest_done b w i g = go w g (starts w i g)
+    pub rest_done : (end : ℕ) → PastByte s to 10 (Ok end) → RestRead s at before (Ok (end, cell)) after
+    rest_done end (l, e, y) w i g = subst (λ x. LineFoundAs s i before (found_for w (Ok (x, cell))) after) (sym y) (go w g (starts w i g))
       where
-        go : (w : Word) → Finds (token 0 (spelling w)) s i (read tt at) → Has s i (initial (as_word w)) → LineFoundAs s i before (found_for w (how.Read (to + 1) cell)) r.store
-        go word.Learn g a = (Line.learn got.0, line_reads s i lines.Word.Learn a at g to got.0 got.1 (byte_has s to 10 b), record { completes = got.2; event = refl })
-        go word.Make g a = (Line.make got.0, line_reads s i lines.Word.Make a at g to got.0 got.1 (byte_has s to 10 b), record { completes = got.2; event = refl })
+        go : (w : Word) → Finds (token 0 (spelling w)) s i (read tt at) → Has s i (initial (as_word w)) → LineFoundAs s i before (found_for w (Ok (to + 1, cell))) after
+        go word.Learn g a = (Line.learn got.0, line_reads s i lines.Word.Learn a at g to got.0 got.1 (byte_has s to 10 (l, e)), record { completes = got.2; event = refl })
+        go word.Make g a = (Line.make got.0, line_reads s i lines.Word.Make a at g to got.0 got.1 (byte_has s to 10 (l, e)), record { completes = got.2; event = refl })
 
 -- ---- the line
 
-pub found_wrong : (w : Word) (p : ℕ) → found.Wrong p ≡ found_for w (how.Wrong p)
-found_wrong word.Learn p = refl
-found_wrong word.Make p = refl
+module _ (s : List ℕ) (at : ℕ) (before after : Store) (w : Word) (behind : ℕ) (x : WordRead s at (Ok (w, behind))) where
+  pub line_failed : (r : Refusal) → RestRead s behind before (Err r) after → Misread line s at r
+  line_failed r rest = rest w at x.0
 
-pub found_deep : (w : Word) (p : ℕ) → found.Deep p ≡ found_for w (how.Deep p)
-found_deep word.Learn p = refl
-found_deep word.Make p = refl
-
-module _ (s : List ℕ) (at : ℕ) (before : Store) (x : Spelt) (f : WordRead s at x) where
-  pub line_unspelt : (p : ℕ) → x ≡ spelt.Wrong p → FindsLine s at before (record { found = found.Wrong p; store = before })
-  line_unspelt p e = subst (WordRead s at) e f
-
-  pub line_spelt : (w : Word) (to : ℕ) → x ≡ spelt.Word w to → (r : Reading) → RestRead s to before r → (o : LineFound) → o ≡ found_for w r.how → FindsLine s at before (record { found = o; store = r.store })
-  line_spelt w to e r rest o z = subst (λ y. LineFoundAs s at before y r.store) (sym z) (rest w at (subst (WordRead s at) e f).0)
-
-  pub spelt_within : (w : Word) (to : ℕ) → x ≡ spelt.Word w to → to ≤ length s
-  spelt_within w to e = (subst (WordRead s at) e f).1
+  pub line_found : (to cell : ℕ) (e : Event) → RestRead s behind before (Ok (to, cell)) after → e ≡ event_of w cell → LineFoundAs s at before (Ok (to, e)) after
+  line_found to cell e rest z = subst (λ y. LineFoundAs s at before (Ok (to, y)) after) (sym z) (rest w at x.0)

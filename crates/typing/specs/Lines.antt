@@ -1,7 +1,9 @@
 -- What the reader of lines finds, what the lines so far say, and what comes of a line.
--- Matched, WordRead: words; RestRead, LineFoundAs, FindsLine: lines; Kept: the entries of the lines so far, as they are stored; LooseSays, Taken, LineRead: refusals 4 and 6, or one more entry.
-use Rattle.std.specs.Prelude.{◌≡◌, Bool, false, ℕ, ◌+◌, ◌≤◌, ◌<◌, length, get_or, drop, take, set}
+-- Matched, WordRead: words; RestRead, LineFoundAs: lines; Kept: the entries of the lines so far, as they are stored; LooseSays, Taken, LineRead: refusals 4 and 6, or one more entry.
+use Rattle.std.specs.Prelude.{◌≡◌, Bool, false, ℕ, ◌+◌, ◌≤◌, ◌<◌, length, get_or, drop, take, set, Result, Ok, Err}
 use mathlib.Core.List.{List, [], ◌∷◌, ◌++◌, Memᴰ}
+use Rattle.refusals.specs.declared.Refusal.{Refusal}
+use Rattle.refusals.specs.Numbers.{number_of}
 use Rattle.model.specs.Case as case
 use Rattle.model.specs.Case.{VA, MK, LN}
 use Rattle.model.specs.Stored.{event_word, aim, table_in}
@@ -13,24 +15,13 @@ use Rattle.grammar.specs.Typed.{Typed, variable, Entry, Holds}
 use Rattle.grammar.specs.Grammar.{Line, learn, make, nested, list_of, list_says, line_says}
 use Rattle.grammar.specs.Filed.{trees_of, file_of, TooMany, is_loose}
 use Rattle.grammar.specs.Text.{refused, Told}
-use Rattle.grammar.specs.Reader.{Runs, Finds, read, wrong, deep, line, token}
+use Rattle.grammar.specs.Reader.{Runs, Finds, read, line, token}
 use Rattle.typing.specs.declared.store.Store.{Store}
-use Rattle.typing.specs.declared.message.How.{How}
-use Rattle.typing.specs.declared.message.How.TheVariants as how
-use Rattle.typing.specs.declared.message.Reading.{Reading}
 use Rattle.typing.specs.declared.line.Lines.{Lines}
 use Rattle.typing.specs.declared.line.Word.{Word}
 use Rattle.typing.specs.declared.line.Word.TheVariants as word
-use Rattle.typing.specs.declared.line.Spelt.{Spelt}
-use Rattle.typing.specs.declared.line.Spelt.TheVariants as spelt
-use Rattle.typing.specs.declared.line.LineFound.{LineFound}
-use Rattle.typing.specs.declared.line.LineFound.TheVariants as found
-use Rattle.typing.specs.declared.line.LineReading.{LineReading}
-use Rattle.typing.specs.declared.line.Verdict.{Verdict}
-use Rattle.typing.specs.declared.line.Verdict.TheVariants as verdict
-use Rattle.typing.specs.declared.line.Outcome.{Outcome}
 use Rattle.typing.specs.Store.{In, Sound, WordsOf}
-use Rattle.typing.specs.Readers.{Completes}
+use Rattle.typing.specs.Readers.{Misread, Completes}
 
 -- ---- what is found
 
@@ -47,16 +38,19 @@ spelling word.Learn = 108 ∷ 101 ∷ 97 ∷ 114 ∷ 110 ∷ 32 ∷ []
 spelling word.Make = 109 ∷ 97 ∷ 107 ∷ 101 ∷ 32 ∷ []
 
 -- The word that stands at `at`; or the first byte at fault.
-abbrev pub WordRead : List ℕ → ℕ → Spelt → Type 0
-WordRead s at (spelt.Word w to) = Finds (token 0 (spelling w)) s at (read tt to) × (to ≤ length s)
-WordRead s at (spelt.Wrong p) = Finds line s at (wrong p)
+abbrev pub WordRead : List ℕ → ℕ → Result (Word × ℕ) Refusal → Type 0
+WordRead s at (Ok (w, to)) = Finds (token 0 (spelling w)) s at (read tt to) × (to ≤ length s)
+WordRead s at (Err r) = Misread line s at r
+
+-- The event of a line, by its word and the cell of its list.
+abbrev pub event_of : Word → ℕ → Event
+event_of word.Learn c = event.Learn c
+event_of word.Make c = event.Make c
 
 -- What is found of a line, by its word and what is found behind it.
-abbrev pub found_for : Word → How → LineFound
-found_for word.Learn (how.Read to c) = found.Line to (event.Learn c)
-found_for word.Make (how.Read to c) = found.Line to (event.Make c)
-found_for w (how.Wrong p) = found.Wrong p
-found_for w (how.Deep p) = found.Deep p
+abbrev pub found_for : Word → Result (ℕ × ℕ) Refusal → Result (ℕ × Event) Refusal
+found_for w (Ok (to, c)) = Ok (to, event_of w c)
+found_for w (Err r) = Err r
 
 -- The event of a line whose list is the cell c.
 abbrev pub event_for : Line → ℕ → case.Event
@@ -69,18 +63,13 @@ pub record Entering (before : Store) (l : Line) (after : Store) (e : Event) : Ty
   pub event : as_event e ≡ event_for l (aim (as_event e))
 
 -- What is found of the line at `at`, and what is entered.
-abbrev pub LineFoundAs : List ℕ → ℕ → Store → LineFound → Store → Type 0
-LineFoundAs s at before (found.Line to e) after = (l : Line) × Finds line s at (read l to) × Entering before l after e
-LineFoundAs s at before (found.Wrong p) after = Finds line s at (wrong p)
-LineFoundAs s at before (found.Deep p) after = Finds line s at (deep p)
+abbrev pub LineFoundAs : List ℕ → ℕ → Store → Result (ℕ × Event) Refusal → Store → Type 0
+LineFoundAs s at before (Ok (to, e)) after = (l : Line) × Finds line s at (read l to) × Entering before l after e
+LineFoundAs s at before (Err r) after = Misread line s at r
 
 -- What is found of the line at i, whose word ends at `at`, from there on.
-abbrev pub RestRead : List ℕ → ℕ → Store → Reading → Type 0
-RestRead s at before r = (w : Word) (i : ℕ) → Finds (token 0 (spelling w)) s i (read tt at) → LineFoundAs s i before (found_for w r.how) r.store
-
--- The same of the reply.
-abbrev pub FindsLine : List ℕ → ℕ → Store → LineReading → Type 0
-FindsLine s at before r = LineFoundAs s at before r.found r.store
+abbrev pub RestRead : List ℕ → ℕ → Store → Result (ℕ × ℕ) Refusal → Store → Type 0
+RestRead s at before r after = (w : Word) (i : ℕ) → Finds (token 0 (spelling w)) s i (read tt at) → LineFoundAs s i before (found_for w r) after
 
 -- ---- what the lines so far say
 
@@ -98,25 +87,26 @@ pub record Kept (es : List Entry) (lines : Lines) : Type 0 where
 
 -- ---- what comes of a line
 
--- For an LN: is one of the new cells a variable?
-abbrev pub LooseSays : Lines → Store → Event → Bool → Type 0
-LooseSays lines s (event.Make c) r = r ≡ false
-LooseSays lines s (event.Learn c) r = Decides r ((v : ℕ) × (lines.store.count ≤ v) × (v < s.count) × (table_in s.words v ≡ VA))
+-- For an LN: is one of the new cells, those from `from` on, a variable?
+abbrev pub LooseSays : ℕ → Store → Event → Bool → Type 0
+LooseSays from s (event.Make c) r = r ≡ false
+LooseSays from s (event.Learn c) r = Decides r ((v : ℕ) × (from ≤ v) × (v < s.count) × (table_in s.words v ≡ VA))
 
 -- One more event, with its cells.
 abbrev pub with_event : Lines → Store → Event → Lines
 with_event lines s e = record { store = s; run = set lines.run lines.events (event_word (as_event e)); events = lines.events + 1 }
 
 -- A refusal is the text's outcome; or the line is taken.
-abbrev pub LineSays : List ℕ → ℕ → List Entry → Verdict → Lines → Type 0
-LineSays s at es (verdict.Refused n p) after = Told es at (drop at s) (refused n p)
-LineSays s at es (verdict.Next to) after =
+abbrev pub LineSays : List ℕ → ℕ → List Entry → Result ℕ Refusal → Lines → Type 0
+LineSays s at es (Err r) after = Told es at (drop at s) (refused (number_of r.fault) r.place)
+LineSays s at es (Ok to) after =
     (l : Line) × Finds line s at (read l to) × (TooMany (es ++ (line_says l ∷ [])) → ⊥) × (is_loose es (line_says l) ≡ false) × Kept (es ++ (line_says l ∷ [])) after
 
--- What comes of a line that was read, whatever entries are kept.
-abbrev pub Taken : Lines → Store → Event → ℕ → ℕ → Outcome → Type 0
-Taken lines store e at to r = (s : List ℕ) (es : List Entry) (l : Line) → Kept es lines → Finds line s at (read l to) → Entering lines.store l store e → LineSays s at es r.verdict r.lines
+-- What comes of a line that was read, whatever entries are kept; its cells, from `from` on, are entered.
+abbrev pub Taken : Lines → ℕ → Event → ℕ → ℕ → Result ℕ Refusal → Lines → Type 0
+Taken lines from e at to r after = (s : List ℕ) (es : List Entry) (l : Line) (before : Store) → before.count ≡ from →
+    Kept es (record { store = before; run = lines.run; events = lines.events }) → Finds line s at (read l to) → Entering before l lines.store e → LineSays s at es r after
 
 -- What comes of the line at `at`.
-abbrev pub LineRead : List ℕ → ℕ → Lines → Outcome → Type 0
-LineRead s at lines r = (es : List Entry) → Kept es lines → LineSays s at es r.verdict r.lines
+abbrev pub LineRead : List ℕ → ℕ → Lines → Result ℕ Refusal → Lines → Type 0
+LineRead s at lines r after = (es : List Entry) → Kept es lines → LineSays s at es r after

@@ -1,10 +1,10 @@
 -- The replies, as the promise names them.
-use Rattle.std.specs.Prelude.{ℕ}
-use Rattle.typing.specs.declared.Entered.{Entered}
-use Rattle.typing.specs.declared.Entered.TheVariants as entered
+use Rattle.std.specs.Prelude.{ℕ, Result, Ok}
+use Rattle.refusals.specs.declared.Refusal.{Refusal}
+use Rattle.refusals.specs.Refused as refusals
 
-abbrev pub Refused : ℕ → ℕ → Entered
-Refused n p = entered.Refused n p
+abbrev pub Refused : ℕ → ℕ → Result ℕ Refusal
+Refused n p = refusals.Refused n p
 
-abbrev pub Written : ℕ → Entered
-Written n = entered.Written n
+abbrev pub Written : ℕ → Result ℕ Refusal
+Written n = Ok n

@@ -1,16 +1,13 @@
 -- The cells so far as they are stored, and what it is to enter a message.
--- In, Ready, Sound: messages each with its parts before it, none twice; key_of: the word of a message; Stored: how they are stored; PutAt, Enters: a message entered; Listed, PairsUp: the items of a list.
-use Rattle.std.specs.Prelude.{◌≡◌, Bool, true, false, cond, ℕ, ◌+◌, ◌≤◌, ◌<◌, ltb, length, get_or, set, replicate}
+-- In, Ready, Sound: messages each with its parts before it, none twice; key_of: the word of a message; Stored: how they are stored; Put, PutAt, Enters: a message entered; Listed, PairsUp: the items of a list.
+use Rattle.std.specs.Prelude.{◌≡◌, Bool, true, false, cond, ℕ, ◌+◌, ◌≤◌, ◌<◌, ltb, length, get_or, set, replicate, Option, Some, None}
 use mathlib.Core.List.{List, [], ◌∷◌, ◌++◌, Memᴰ}
 use Rattle.model.specs.Message.{App}
 use Rattle.model.specs.Stored.{word_of}
 use Rattle.grammar.specs.Typed.{Typed, name, variable, one, two, paired}
 use Rattle.grammar.specs.Filed.{enter, entered, place, cell_of}
 use Rattle.typing.specs.declared.store.Store.{Store}
-use Rattle.typing.specs.declared.store.Put.{Put}
 use Rattle.typing.specs.declared.store.Items.{Items}
-use Rattle.typing.specs.declared.store.Place.{Place}
-use Rattle.typing.specs.declared.store.Place.TheVariants as found
 
 -- ---- messages
 
@@ -57,15 +54,23 @@ pub data Stored (trees : List Typed) (s : Store) : Type 0 where
 
 -- ---- entering
 
+-- The cells with a message entered, and the number of its cell.
+pub record Put : Type 0 where
+  pub store : Store
+  pub cell : ℕ
+
+abbrev pub put : Store → ℕ → Put
+put s c = record { store = s; cell = c }
+
 -- The messages are stored, and the cell is that of t.
 pub record PutAt (trees : List Typed) (t : Typed) (p : Put) : Type 0 where
   pub stored : Stored trees p.store
   pub cell : p.store.full ≡ false → p.cell ≡ place trees t
 
 -- The first place of the word among so many, at most 128.
-abbrev pub FoundAt : List ℕ → ℕ → ℕ → Place → Type 0
-FoundAt words count word (found.At c) = (c < count) × (c < 128) × (get_or words c 0 ≡ word)
-FoundAt words count word found.Nowhere = (c : ℕ) → c < count → c < 128 → get_or words c 0 ≡ word → ⊥
+abbrev pub FoundAt : List ℕ → ℕ → ℕ → Option ℕ → Type 0
+FoundAt words count word (Some c) = (c < count) × (c < 128) × (get_or words c 0 ≡ word)
+FoundAt words count word None = (c : ℕ) → c < count → c < 128 → get_or words c 0 ≡ word → ⊥
 
 -- One more word behind the others, if there is room.
 abbrev pub added : Store → ℕ → Put

@@ -1,4 +1,4 @@
-// The reader of typed text: lines to the bytes of their case file, or a refusal with its number and place.
+// The reader of typed text: lines to the bytes of their case file, or a refusal with its fault and place.
 
 #![tactic(auto)]
 
@@ -14,15 +14,9 @@ ghost use Rattle.grammar.specs.Text.{said, Replied, TextReply};
 ghost use Rattle.typing.specs.Lines.{Kept};
 ghost use Rattle.typing.specs.Reply.{Refused, Written};
 
-use line::{Lines, Verdict};
+use line::Lines;
+use refusals::{Fault, Refusal};
 use store::Store;
-
-// The reply: a refusal with its number and place, or how many bytes the file takes.
-#[derive(Clone, Copy)]
-pub enum Entered {
-    Refused(u8, usize),
-    Written(usize),
-}
 
 // No lines.
 fn no_lines() -> Lines
@@ -34,46 +28,40 @@ fn no_lines() -> Lines
         full: false,
     };
     Lines {
-        store: store,
+        store,
         run: [0; 128],
         events: 0,
     }
 }
 
-// Writes the file of the lines at the front of `out`, if it fits.
-fn write_file(lines: Lines, out: &mut [u8]) -> Entered
-    requires { (lines.store.count ≤ 128) × (lines.events ≤ 128) }
-    ensures { (es : List Entry) → Kept es lines → Replied Refused Written out.old (said es) result out.new }
+// Writes the file of the lines at the front of `out`, if it fits, and says how many bytes it takes.
+fn write_file(lines: &Lines, out: &mut [u8]) -> Result<usize, Refusal>
+    requires { (lines.now.store.count ≤ 128) × (lines.now.events ≤ 128) }
+    ensures { (es : List Entry) → Kept es lines.now → Replied Refused Written out.old (said es) result out.new }
 {
-    let store = lines.store;
-    let table = store.words;
-    let run = lines.run;
-    let cells = file::cells_size(&table, store.count);
+    let table = &lines.store.words;
+    let count = lines.store.count;
+    let cells = file::cells_size(table, count);
     let length = cells + 3 * lines.events + 2;
     if out.len() < length {
-        return Entered::Refused(9, length);
+        return Err(Refusal {
+            fault: Fault::ShortBuffer,
+            place: length,
+        });
     }
-    file::put_cells(out, &table, store.count);
-    file::put_events(out, cells, &run, lines.events);
-    Entered::Written(length)
+    file::put_cells(out, table, count);
+    file::put_events(out, cells, &lines.run, lines.events);
+    Ok(length)
 }
 
-// Reads typed text and writes its case file at the front of `out`.
-pub fn read_text(text: &[u8], out: &mut [u8]) -> Entered
+// Reads typed text and writes its case file at the front of `out`: how many bytes it takes, or why the text is refused.
+pub fn read_text(text: &[u8], out: &mut [u8]) -> Result<usize, Refusal>
     ensures { TextReply Refused Written text.now out.old result out.new }
 {
     let mut lines = no_lines();
-    let mut at: usize = 0;
+    let mut at = 0;
     while at < text.len() {
-        let read = line::read_line(text, at, lines);
-        let verdict = read.verdict;
-        match verdict {
-            Verdict::Refused(number, place) => return Entered::Refused(number, place),
-            Verdict::Next(to) => {
-                lines = read.lines;
-                at = to;
-            }
-        }
+        at = line::read_line(text, at, &mut lines)?;
     }
-    write_file(lines, out)
+    write_file(&lines, out)
 }

@@ -1,63 +1,48 @@
 // Numbers in decimal.
 ghost use Rattle.std.specs.Prelude.{◌≡◌, ◌≤◌, length};
-ghost use Rattle.typing.specs.Readers.{DigitAt, NumberRead};
+ghost use Rattle.typing.specs.Readers.{DigitAt, NumberRead, wrong_at};
 
-// A number with the position behind it, or the first byte that no number could have there.
-#[derive(Clone, Copy)]
-pub enum Number {
-    Read(u32, usize),
-    Wrong(usize),
-}
+use refusals::{Fault, Refusal};
 
-// What stands where a digit may stand.
-#[derive(Clone, Copy)]
-enum Digit {
-    Is(u8),
-    Not,
+// The first byte that no line could have there.
+pub fn wrong(at: usize) -> Refusal
+    ensures { result ≡ wrong_at at }
+{
+    Refusal {
+        fault: Fault::WrongByte,
+        place: at,
+    }
 }
 
 // The digit at i, if there is one.
-fn digit_at(text: &[u8], i: usize) -> Digit
+fn digit_at(text: &[u8], i: usize) -> Option<u8>
     ensures { DigitAt text.now i result }
 {
-    if text.len() <= i {
-        return Digit::Not;
+    if i < text.len() && b'0' <= text[i] && text[i] <= b'9' {
+        Some(text[i] - b'0')
+    } else {
+        None
     }
-    let b = text[i];
-    if b < b'0' {
-        return Digit::Not;
-    }
-    if b'9' < b {
-        return Digit::Not;
-    }
-    Digit::Is(b - b'0')
 }
 
-// The number at `at`, without leading zeros, at most the bound.
-pub fn read_number(text: &[u8], at: usize, bound: u32) -> Number
+// The number at `at`, without leading zeros, at most the bound, and the position behind it; or the first byte that no number could have there.
+pub fn read_number(text: &[u8], at: usize, bound: u32) -> Result<(u32, usize), Refusal>
     requires at_in_bounds { at ≤ length text.now }
     requires le_bound { (9 ≤ bound) × (bound ≤ 65535) }
     ensures { NumberRead text.now at bound result }
 {
-    let first = digit_at(text, at);
-    let Digit::Is(lead) = first else {
-        return Number::Wrong(at);
+    let Some(lead) = digit_at(text, at) else {
+        return Err(wrong(at));
     };
-    let mut n: u32 = lead as u32;
+    let mut n = u32::from(lead);
     let mut i = at + 1;
-    loop {
-        let next = digit_at(text, i);
-        let Digit::Is(c) = next else {
-            return Number::Read(n, i);
-        };
-        if n == 0 {
-            return Number::Wrong(i);
-        }
-        let more = n * 10 + c as u32;
-        if bound < more {
-            return Number::Wrong(i);
+    while let Some(c) = digit_at(text, i) {
+        let more = n * 10 + u32::from(c);
+        if n == 0 || bound < more {
+            return Err(wrong(i));
         }
         n = more;
         i += 1;
     }
+    Ok((n, i))
 }

@@ -1,6 +1,6 @@
 // The cells so far: a message that is completed is entered, if it is not there.
 ghost use Rattle.std.specs.Prelude.{◌≡◌, ◌≤◌};
-ghost use Rattle.typing.specs.Store.{FoundAt, added, Enters, no_items, with_item, or_full, PairsUp};
+ghost use Rattle.typing.specs.Store.{FoundAt, put, added, Enters, no_items, with_item, PairsUp};
 
 use cells::{Cell, Table, word_of};
 
@@ -12,13 +12,6 @@ pub struct Store {
     pub full: bool,
 }
 
-// The cells with a message entered, and the number of its cell.
-#[derive(Clone, Copy)]
-pub struct Put {
-    pub store: Store,
-    pub cell: u8,
-}
-
 // The cells of a list's messages up to the last comma. `more` says that there are more than 128.
 #[derive(Clone, Copy)]
 pub struct Items {
@@ -27,60 +20,34 @@ pub struct Items {
     pub more: bool,
 }
 
-// Where a word stands, if it is there.
-#[derive(Clone, Copy)]
-enum Place {
-    At(usize),
-    Nowhere,
-}
-
 // The first place of the word among so many.
-fn find(words: &Table, count: usize, word: u32) -> Place
+fn find(words: &Table, count: usize, word: u32) -> Option<usize>
     ensures { FoundAt words.now count word result }
 {
-    let mut i: usize = 0;
-    while i < 128 {
-        if count <= i {
-            return Place::Nowhere;
-        }
-        if words[i] == word {
-            return Place::At(i);
-        }
-        i += 1;
-    }
-    Place::Nowhere
+    words.iter().take(count).position(|w| *w == word)
 }
 
-// The cells with one more word behind them.
-fn add(store: Store, word: u32) -> Put
-    ensures { result ≡ added store word }
+// Puts one more word behind the cells, if there is room, and says its cell.
+fn add(store: &mut Store, word: u32) -> u8
+    ensures { put store.new result ≡ added store.old word }
 {
-    let mut s = store;
-    let at = s.count;
+    let at = store.count;
     if 128 <= at {
-        s.full = true;
-        return Put { store: s, cell: 0 };
+        store.full = true;
+        return 0;
     }
-    s.words[at] = word;
-    s.count = at + 1;
-    Put {
-        store: s,
-        cell: at as u8,
-    }
+    store.words[at] = word;
+    store.count = at + 1;
+    at as u8
 }
 
-// The cells with the word entered, if it is not there.
-pub fn enter(store: Store, word: u32) -> Put
-    ensures { Enters store word result }
+// Enters the word, if it is not there, and says its cell.
+pub fn enter(store: &mut Store, word: u32) -> u8
+    ensures { Enters store.old word (put store.new result) }
 {
-    let words = store.words;
-    let place = find(&words, store.count, word);
-    match place {
-        Place::At(c) => Put {
-            store: store,
-            cell: c as u8,
-        },
-        Place::Nowhere => add(store, word),
+    match find(&store.words, store.count, word) {
+        Some(c) => c as u8,
+        None => add(store, word),
     }
 }
 
@@ -95,49 +62,30 @@ pub fn no_items() -> Items
     }
 }
 
-// The items with one more.
-pub fn with_item(items: Items, cell: u8) -> Items
-    ensures { result ≡ with_item items cell }
+// Puts one more item behind the others.
+pub fn with_item(items: &mut Items, cell: u8)
+    ensures { items.new ≡ with_item items.old cell }
 {
-    let mut t = items;
-    let at = t.count;
+    let at = items.count;
     if 128 <= at {
-        t.more = true;
-        return t;
+        items.more = true;
+        return;
     }
-    t.cells[at] = cell;
-    t.count = at + 1;
-    t
+    items.cells[at] = cell;
+    items.count = at + 1;
 }
 
-// The cells, too many of them if so said.
-fn or_full(store: Store, more: bool) -> Store
-    ensures { result ≡ or_full store more }
+// Enters the pairs of a list, the last one first, and says the cell of the whole: each item is paired with what stands behind it. More than 128 pairs are too many.
+pub fn pair_up(store: &mut Store, items: &Items, last: u8) -> u8
+    requires { items.now.count ≤ 128 }
+    ensures { PairsUp store.old items.now last (put store.new result) }
 {
-    let mut s = store;
-    if more {
-        s.full = true;
-    }
-    s
-}
-
-// The cells with the pairs of a list entered, the last one first: each item is paired with what stands behind it. More than 128 pairs are too many.
-pub fn pair_up(store: Store, items: Items, last: u8) -> Put
-    requires { items.count ≤ 128 }
-    ensures { PairsUp store items last result }
-{
-    let cells = items.cells;
-    let mut s = store;
     let mut behind = last;
-    let mut i = items.count;
-    while 0 < i {
-        i -= 1;
-        let put = enter(s, word_of(Cell::Pair(cells[i], behind)));
-        s = put.store;
-        behind = put.cell;
+    for i in (0..items.count).rev() {
+        behind = enter(store, word_of(Cell::Pair(items.cells[i], behind)));
     }
-    Put {
-        store: or_full(s, items.more),
-        cell: behind,
+    if items.more {
+        store.full = true;
     }
+    behind
 }

@@ -10,7 +10,6 @@ use reducing::Reduced;
 use running::Solved;
 use std::io;
 use std::io::Write;
-use typing::Entered;
 
 // The byte at `i`, or 0 where there is none.
 fn byte(s: &[u8], i: usize) -> u8 {
@@ -89,10 +88,9 @@ fn ask_text<W: Write>(to: &mut W, room: usize, text: &[u8], out: &mut [u8]) -> i
     if room > out.len() {
         return Ok(());
     }
-    let reply = typing::read_text(text, &mut out[..room]);
-    match reply {
-        Entered::Refused(number, place) => print_refused(to, number, place),
-        Entered::Written(n) => {
+    match typing::read_text(text, &mut out[..room]) {
+        Err(refusal) => write!(to, "{refusal}\n"),
+        Ok(n) => {
             print(to, b"typed ")?;
             print_hex(to, out, n)?;
             print(to, b"\n")

@@ -6,11 +6,10 @@
 mod ask;
 mod print;
 
-ghost use Rattle.std.specs.Prelude.{◌≤◌, length, IfOk};
-
 use crate::print::{print, print_number};
+use input::read_start;
 use std::io;
-use std::io::{Read, Write};
+use std::io::Write;
 
 // How many bytes stand before the file's length, of a case that starts with these two bytes: the letter, and room, cells and room, or a list.
 fn head_size(letter: u8, next: u8) -> usize {
@@ -49,24 +48,9 @@ fn ask_all<W: Write>(to: &mut W, input: &[u8]) -> io::Result<usize> {
     Ok(count)
 }
 
-// Reads until the buffer is full or the input ends, and returns how many bytes there are.
-fn read_full<R: Read>(from: &mut R, buffer: &mut [u8]) -> io::Result<usize>
-    ensures { IfOk result (λ n. n ≤ length buffer.new) }
-{
-    let mut done: usize = 0;
-    while done < buffer.len() {
-        let n = from.read(&mut buffer[done..])?;
-        if n == 0 {
-            return Ok(done);
-        }
-        done += n;
-    }
-    Ok(done)
-}
-
 fn main(rt: HostRuntime) -> io::Result<()> {
     let mut input = [0u8; 393216];
-    let n = read_full(&mut rt.stdin(), &mut input)?;
+    let n = read_start(&mut rt.stdin(), &mut input)?;
     let mut to = rt.stdout();
     let count = ask_all(&mut to, &input[..n])?;
     print_number(&mut to, count)?;

@@ -17,57 +17,26 @@ pub fn print_refused<W: Write>(to: &mut W, number: u8, place: usize) -> io::Resu
     write!(to, "refused {number} at {place}\n")
 }
 
-// A byte as two digits.
-fn print_byte<W: Write>(to: &mut W, b: u8) -> io::Result<()> {
-    write!(to, "{b:02x}")
-}
-
-// The first n bytes as digits, two for each.
+// The first n bytes, each as two digits.
 pub fn print_hex<W: Write>(to: &mut W, bytes: &[u8], n: usize) -> io::Result<()> {
-    let mut i = 0;
-    while i < n {
-        if i >= bytes.len() {
-            return Ok(());
-        }
-        print_byte(to, bytes[i])?;
-        i += 1;
+    for b in bytes.iter().take(n) {
+        write!(to, "{b:02x}")?;
     }
     Ok(())
-}
-
-// A byte as a number.
-fn print_mark<W: Write>(to: &mut W, b: u8) -> io::Result<()> {
-    print_number(to, b as usize)
 }
 
 // The first n bytes as numbers, one after the other.
 pub fn print_marks<W: Write>(to: &mut W, bytes: &[u8], n: usize) -> io::Result<()> {
-    let mut i = 0;
-    while i < n {
-        if i >= bytes.len() {
-            return Ok(());
-        }
-        print_mark(to, bytes[i])?;
-        i += 1;
+    for b in bytes.iter().take(n) {
+        write!(to, "{b}")?;
     }
     Ok(())
 }
 
-// A byte as a number, behind a space.
-fn print_entry<W: Write>(to: &mut W, b: u8) -> io::Result<()> {
-    print(to, b" ")?;
-    print_number(to, b as usize)
-}
-
 // The first n bytes as numbers, a space before each.
 pub fn print_list<W: Write>(to: &mut W, bytes: &[u8], n: usize) -> io::Result<()> {
-    let mut i = 0;
-    while i < n {
-        if i >= bytes.len() {
-            return Ok(());
-        }
-        print_entry(to, bytes[i])?;
-        i += 1;
+    for b in bytes.iter().take(n) {
+        write!(to, " {b}")?;
     }
     Ok(())
 }

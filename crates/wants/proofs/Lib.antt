@@ -1,4 +1,4 @@
-pub mod Rowing
+pub mod PickLaws
 pub mod StartLaws
 pub mod SpreadLaws
 pub mod SetLaws

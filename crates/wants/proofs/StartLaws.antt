@@ -1,17 +1,20 @@
 -- The loops that make the rows to start from, and that the row of bare cells has them.
 use mathlib.Core.Path.{◌≡◌, refl, sym, ◌∙◌, ap, subst}
-use mathlib.Core.Logic.{inl, inr}
+use mathlib.Core.Logic.{◌⊎◌, inl, inr}
+use mathlib.Core.Bool.{Bool, true, false, not}
 use mathlib.Core.List.{List}
-use Prim.Native.Nat.{ℕ, ◌+◌, ◌≤◌, ◌<◌}
+use Prim.Native.Nat.{ℕ, ◌≤◌, ◌<◌}
 use native.Mathlib.Omega.{arith}
-use lib.ListN.{length, get_or, set, length-set, replicate, length-replicate}
-use borrow.Author.Count.{below_more}
+use lib.ListN.{get_or, replicate}
+use Rattle.std.specs.Prelude.{Option, Some, None}
+use Rattle.std.specs.Bool.{then_some}
 use Rattle.model.specs.Message.{App, Two}
 use Rattle.model.specs.Case.{Cell, AT, VA, ONE, TWO, PR, SE, Event, MK, LN, Table, Run, Part}
 use Rattle.model.specs.Stored.{table_in, event_in, aim}
 use Rattle.model.proofs.Read.{clash}
 use Rattle.model.proofs.Rows.{zeros}
 use Rattle.theory.specs.Cells.{TableWords, RunWords, Composes, Makes, Opening, class_at, On}
+use Rattle.theory.specs.Decides.{Decides}
 use Rattle.theory.specs.Level as Level
 use Rattle.theory.specs.Level.{Kin}
 use Rattle.theory.specs.Sweep.{Swept}
@@ -24,21 +27,9 @@ use Rattle.cells.specs.declared.Opening.TheVariants as opening
 use Rattle.knowledge.specs.Knowledge.{ClassRow, MarkRow}
 use Rattle.knowledge.specs.Sweeps.{left_part, right_part, left_class, right_class}
 use Rattle.knowledge.proofs.ByKind.{makes_ends}
-use Rattle.knowledge.proofs.Grow.{set_bits}
-use Rattle.theory.proofs.MarkRows.{no_mark, set_kept, set_on, set_cases}
-use Rattle.wants.specs.declared.starts.Pick.{Pick}
-use Rattle.wants.specs.declared.starts.Pick.TheVariants as pick
-use Rattle.wants.specs.Starts.{EndsAt, BareAt, BareTo, LacksKey, KeyTold, Keyed, FreeAt, FreeSeen, DueTold, Due, Joint}
-use Rattle.wants.proofs.Rowing.{wider_none, wider_mark}
-
--- ---- one more turn of a loop: a mark at c
-
-module _ (P : ℕ → Type 0) (r : List ℕ) (c : ℕ) where
-  pub more_on : c < length r → ((d : ℕ) → d < c → P d → On r d) → (d : ℕ) → d < c + 1 → P d → On (set r c 1) d
-  more_on h all = below_more (λ d. P d → On (set r c 1) d) c (λ d l p. set_kept r c h d (all d l p)) (λ p. set_on r c h)
-
-  pub more_off : (P c → ⊥) → ((d : ℕ) → d < c → P d → On r d) → (d : ℕ) → d < c + 1 → P d → On r d
-  more_off none all = below_more (λ d. P d → On r d) c all (λ p. absurd (none p))
+use Rattle.theory.proofs.MarkRows.{no_mark}
+use Rattle.wants.specs.Starts.{Picks, EndsAt, BareAt, BareTo, LacksKey, KeyTold, Keyed, FreeAt, FreeSeen, DueTold, Due, Joint}
+use Rattle.wants.proofs.PickLaws.{picks_wider, picks_all, picks_only}
 
 -- ---- the classes of parts
 
@@ -66,19 +57,19 @@ bare_kin (ONE g a) (x, p) s = Kin.ones
 bare_kin (TWO Two.Pair l r) (x, p) s = absurd (s l r refl)
 bare_kin (TWO Two.Seal l r) (x, p) s = Kin.twos Level.seals
 
-module _ (T : Table) (rep seens builts : List ℕ) (c : ℕ) where
+module _ {T : Table} {rep seens builts : List ℕ} {c : ℕ} where
   pub bare_unkin : (Kin (T c) (T c) → ⊥) → BareAt T rep seens builts c → ⊥
   bare_unkin n w = n (bare_kin (T c) w.part w.shut)
 
-  module _ (a b : ℕ) (e : EndsAt T rep c a b) (k : Kin (T c) (T c)) where
-    pub bare_made : On builts a → On builts b → BareAt T rep seens builts c → ⊥
+  module _ {a b : ℕ} (e : EndsAt T rep c a b) (k : Kin (T c) (T c)) where
+    bare_made : On builts a → On builts b → BareAt T rep seens builts c → ⊥
     bare_made x y w =
         let (i, j, m) = kin_makes k in
         let (l, r) = makes_ends c m in
         w.lacks i j m (subst (λ d. On builts (class_at rep d)) l (subst (On builts) e.left x)) (subst (λ d. On builts (class_at rep d)) r (subst (On builts) e.right y))
 
     -- Seen and without one of its parts it is bare.
-    pub bare_here : On seens c → (On builts a → On builts b → ⊥) → BareAt T rep seens builts c
+    bare_here : On seens c → (On builts a → On builts b → ⊥) → BareAt T rep seens builts c
     bare_here o ne =
         record {
           whole = o;
@@ -88,37 +79,17 @@ module _ (T : Table) (rep seens builts : List ℕ) (c : ℕ) where
               ne (subst (On builts) (sym e.left) (subst (λ d. On builts (class_at rep d)) (sym l) ox)) (subst (On builts) (sym e.right) (subst (λ d. On builts (class_at rep d)) (sym r) oy)));
         }
 
-module _ {T : Table} {rep seens builts : List ℕ} where
-  pub bare_none : BareTo T rep seens builts (replicate 129 0) 0
-  bare_none =
-      record {
-        long = length-replicate {A = ℕ} 129 0;
-        bits = λ c. omega (arith, zeros 129 c);
-        only = λ c o. absurd (no_mark 129 c o);
-        bares = λ c h. absurd (omega arith);
-      }
+    pub bare_decides : {u : Bool} → On seens c → (u ≡ true → On builts a → On builts b → ⊥) → (u ≡ false → On builts a × On builts b) → Decides u (BareAt T rep seens builts c)
+    bare_decides o to of = record { yes = λ i. bare_here o (to i); no = λ i w. (let (x, y) = of i in bare_made x y w) }
 
-  pub bare_mark : {r : List ℕ} {c : ℕ} → c ≤ 128 → BareTo T rep seens builts r c → BareAt T rep seens builts c → BareTo T rep seens builts (set r c 1) (c + 1)
-  bare_mark {r} {c} h w b =
-      let k : c < length r = omega (arith, w.long) in
-      record {
-        long = length-set r c 1 ∙ w.long;
-        bits = λ d. set_bits r c d k (w.bits d);
-        only = λ d o. elim (set_cases r c d o) [
-          | inl e ↦ (omega arith, subst (BareAt T rep seens builts) (sym e) b)
-          | inr i ↦ (let (l, q) = w.only d i in (omega arith, q))
-        ];
-        bares = more_on (BareAt T rep seens builts) r c k w.bares;
-      }
-
-  pub bare_skip : {r : List ℕ} {c : ℕ} → BareTo T rep seens builts r c → (BareAt T rep seens builts c → ⊥) → BareTo T rep seens builts r (c + 1)
-  bare_skip {r} {c} w n =
-      record {
-        long = w.long;
-        bits = w.bits;
-        only = λ d o. (let (l, q) = w.only d o in (omega arith, q));
-        bares = more_off (BareAt T rep seens builts) r c n w.bares;
-      }
+pub bares_picks : {P : ℕ → Option ℕ → Type 0} {T : Table} {rep seens builts r : List ℕ} {n : ℕ} →
+    ((c : ℕ) (k : Option ℕ) → c < n → P c k → (b : Bool) × (k ≡ then_some b c) × Decides b (BareAt T rep seens builts c)) → Picks P (replicate 129 0) r n → BareTo T rep seens builts r n
+bares_picks told w = record {
+  long = w.long;
+  bits = λ c. elim (w.only c) [ inl e ↦ omega (arith, zeros 129 c) | inr x ↦ (let (o, y) = x in omega arith) ];
+  only = λ c o. elim (picks_only told w c o) [ inl e ↦ absurd (no_mark 129 c e) | inr x ↦ x ];
+  bares = picks_all told w;
+}
 
 module _ {n : ℕ} {words rep : List ℕ} (w : TableWords n words) (row : ClassRow n rep) where
   pub bare_rows : {ev : Run} {p : ℕ} {seens builts r : List ℕ} → Swept (table_in words) (class_at rep) ev p (On seens) (On builts) → BareTo (table_in words) rep seens builts r n →
@@ -138,16 +109,13 @@ module _ {n : ℕ} {words rep : List ℕ} (w : TableWords n words) (row : ClassR
 
 -- ---- keys
 
--- What is shut is no seal.
-pub shut_unsealed : {k k' : Cell} {o : opened.Opening} → k ≡ k' → Opens k o → o ≡ opening.Shut → (b j : ℕ) → k' ≡ SE b j → ⊥
-shut_unsealed {k} is x e b j z = go (subst (Opens k) e x)
+-- What is shut or open is no seal.
+pub unsealed : {k k' : Cell} {o : opened.Opening} → k ≡ k' → Opens k o → (o ≡ opening.Shut) ⊎ ((l : ℕ) × (r : ℕ) × (o ≡ opening.Open l r)) → (b j : ℕ) → k' ≡ SE b j → ⊥
+unsealed {k} is x (inl e) b j z = go (subst (Opens k) e x)
   where
     go : Opens k opening.Shut → ⊥
     go (shut p s) = s b j (is ∙ z)
-
--- What is open is no seal.
-pub open_unsealed : {k k' : Cell} {o : opened.Opening} {l r : ℕ} → k ≡ k' → Opens k o → o ≡ opening.Open l r → (b j : ℕ) → k' ≡ SE b j → ⊥
-open_unsealed {k} {l = l} {r} is x e b j z = go (subst (Opens k) e x)
+unsealed {k} is x (inr (l, r, e)) b j z = go (subst (Opens k) e x)
   where
     go : Opens k (opening.Open l r) → ⊥
     go (open_pair q) = clash (cc)
@@ -158,142 +126,93 @@ locked_seal {k} {k'} {o} {b} {j} is x e = go (subst (Opens k) e x)
     go : Opens k (opening.Locked b j) → k' ≡ SE b j
     go (locked z) = sym is ∙ z
 
-module _ (T : Table) (rep seens builts : List ℕ) (c : ℕ) where
-  pub key_unseen : (On seens c → ⊥) → KeyTold T rep seens builts c pick.Nothing
+module _ {T : Table} {rep seens builts : List ℕ} {c : ℕ} where
+  pub key_unseen : (On seens c → ⊥) → KeyTold T rep seens builts c None
   key_unseen n = KeyTold.nothing (λ k w. n w.whole)
 
-  pub key_unsealed : ((b j : ℕ) → T c ≡ SE b j → ⊥) → KeyTold T rep seens builts c pick.Nothing
+  pub key_unsealed : ((b j : ℕ) → T c ≡ SE b j → ⊥) → KeyTold T rep seens builts c None
   key_unsealed n = KeyTold.nothing (λ j w. let (b, e) = w.sealed in n b j e)
 
   module _ {b j t : ℕ} (e : T c ≡ SE b j) (z : t ≡ class_at rep j) where
-    pub key_built : On builts t → KeyTold T rep seens builts c pick.Nothing
+    key_built : On builts t → KeyTold T rep seens builts c None
     key_built u = KeyTold.nothing (λ i w.
         let (d, q) = w.sealed in
         let same : j ≡ i = cc in
         w.lacks (subst (On builts) (z ∙ ap (class_at rep) same) u))
 
-    pub key_new : KeyTold T rep seens builts c (pick.Mark t)
-    key_new = subst (λ x. KeyTold T rep seens builts c (pick.Mark x)) (sym z) (KeyTold.key e)
+    key_new : KeyTold T rep seens builts c (Some t)
+    key_new = subst (λ x. KeyTold T rep seens builts c (Some x)) (sym z) (KeyTold.key e)
 
-  told_key : {p : Pick} {t : ℕ} → KeyTold T rep seens builts c p → p ≡ pick.Mark t → (b : ℕ) × (k : ℕ) × (T c ≡ SE b k) × (t ≡ class_at rep k)
-  told_key (KeyTold.key {b = b} {k = k} i) e = (b, k, i, cc)
-  told_key (KeyTold.nothing n) e = clash (cc)
+    pub key_pick : (u : Bool) → Decides u (On builts t) → KeyTold T rep seens builts c (then_some (not u) t)
+    key_pick true d = key_built (d.yes refl)
+    key_pick false d = key_new
 
-  told_nothing : {p : Pick} → KeyTold T rep seens builts c p → p ≡ pick.Nothing → (k : ℕ) → LacksKey T rep seens builts c k → ⊥
-  told_nothing (KeyTold.key i) e = clash (cc)
-  told_nothing (KeyTold.nothing n) e = n
+  pub key_low : {n : ℕ} → ClassRow n rep → {p : Option ℕ} {t : ℕ} → KeyTold T rep seens builts c p → p ≡ Some t → (t ≤ 128) × (class_at rep t ≡ t)
+  key_low row {t = t} (KeyTold.key {k = k} i) e = let z : class_at rep k ≡ t = cc in (omega (arith, row.low k, z), subst (λ x. class_at rep x ≡ x) z (row.idem k))
+  key_low row (KeyTold.nothing n) e = clash (cc)
 
-module _ {n : ℕ} (T : Table) {rep : List ℕ} (row : ClassRow n rep) (seens builts m : List ℕ) (c : ℕ) where
-  pub keyed_none : length m ≡ 129 → MarkRow rep m → Keyed T rep seens builts m m 0
-  keyed_none l w = record { wider = wider_none l w; keys = λ c k h. absurd (omega arith) }
+  key_told : {p : Option ℕ} {k : ℕ} → KeyTold T rep seens builts c p → LacksKey T rep seens builts c k → p ≡ Some (class_at rep k)
+  key_told {k = k} (KeyTold.key {k = j} i) x = let (b, q) = x.sealed in let same : j ≡ k = cc in ap (λ y. Some (class_at rep y)) same
+  key_told {k = k} (KeyTold.nothing n) x = absurd (n k x)
 
-  module _ {p : Pick} (told : KeyTold T rep seens builts c p) where
-    pub key_low : {t : ℕ} → p ≡ pick.Mark t → t ≤ 128
-    key_low e = let (b, k, i, z) = told_key T rep seens builts c told e in omega (arith, z, row.low k)
-
-    module _ {r : List ℕ} (w : Keyed T rep seens builts m r c) where
-      pub keyed_mark : {t : ℕ} → p ≡ pick.Mark t → Keyed T rep seens builts m (set r t 1) (c + 1)
-      keyed_mark {t} e =
-          let (b, k, i, z) = told_key T rep seens builts c told e in
-          let h : t < length r = omega (arith, w.wider.long, key_low e) in
-          record {
-            wider = wider_mark (key_low e) (subst (λ x. class_at rep x ≡ x) (sym z) (row.idem k)) w.wider;
-            keys = λ d j l. below_more (λ d. LacksKey T rep seens builts d j → On (set r t 1) (class_at rep j)) c
-                (λ d l x. set_kept r t h (class_at rep j) (w.keys d j l x))
-                (λ x. let (b', q) = x.sealed in
-                let same : k ≡ j = cc in
-                subst (On (set r t 1)) (z ∙ ap (class_at rep) same) (set_on r t h))
-                d l;
-          }
-
-      pub keyed_skip : p ≡ pick.Nothing → Keyed T rep seens builts m r (c + 1)
-      keyed_skip e = record {
-        wider = w.wider;
-        keys = λ d j l. below_more (λ d. LacksKey T rep seens builts d j → On r (class_at rep j)) c (λ d l. w.keys d j l)
-            (λ x. absurd (told_nothing T rep seens builts c told e j x)) d l;
-      }
+pub keyed_picks : {P : ℕ → Option ℕ → Type 0} {n : ℕ} {T : Table} {rep seens builts m r : List ℕ} → ClassRow n rep → MarkRow rep m →
+    ((c : ℕ) (k : Option ℕ) → c < n → P c k → KeyTold T rep seens builts c k) → Picks P m r n → Keyed T rep seens builts m r n
+keyed_picks {T = T} {rep} {seens} {builts} row marks told w = record {
+  wider = picks_wider (λ c t h p. (key_low row (told c (Some t) h p) refl).1) marks w;
+  keys = λ c k h x. (let (j, p, o) = w.told c h in o (class_at rep k) (key_told (told c j h p) x));
+}
 
 -- ---- free cells that are seen
 
-module _ (T : Table) (rep seens : List ℕ) where
-  pub free_none : {m : List ℕ} → length m ≡ 129 → MarkRow rep m → FreeSeen T rep seens m 0
-  free_none l w = record { long = l; marked = w; free = λ c h. absurd (omega arith) }
-
-  module _ (c : ℕ) (h : c ≤ 128) {r : List ℕ} (w : FreeSeen T rep seens r c) where
-    pub free_mark : class_at rep c ≡ c → FreeSeen T rep seens (set r c 1) (c + 1)
-    free_mark s =
-        let x = wider_mark h s (wider_none w.long w.marked) in
-        record { long = x.long; marked = x.marked; free = more_on (FreeAt T seens) r c (omega (arith, w.long)) w.free }
-
-    pub free_skip : (FreeAt T seens c → ⊥) → FreeSeen T rep seens r (c + 1)
-    free_skip none = record { long = w.long; marked = w.marked; free = more_off (FreeAt T seens) r c none w.free }
+-- What is seen stands for its class.
+pub free_picks : {P : ℕ → Option ℕ → Type 0} {T : Table} {rep seens r : List ℕ} {n : ℕ} → MarkRow rep seens →
+    ((c : ℕ) (k : Option ℕ) → c < n → P c k → (b : Bool) × (k ≡ then_some b c) × Decides b (FreeAt T seens c)) → Picks P (replicate 129 0) r n → FreeSeen T rep seens r n
+free_picks row told w = record {
+  long = w.long;
+  marked = record {
+    bits = λ c. elim (w.only c) [ inl e ↦ omega (arith, zeros 129 c) | inr x ↦ (let (o, y) = x in omega arith) ];
+    stand = λ c o. elim (picks_only told w c o) [ inl e ↦ absurd (no_mark 129 c e) | inr x ↦ (let (h, (s, v)) = x in row.stand c s) ];
+  };
+  free = picks_all told w;
+}
 
 -- ---- what is to be made
 
 pub fewer_events : {n : ℕ} {run : List ℕ} {p count : ℕ} → RunWords n run count → p ≤ count → RunWords n run p
 fewer_events w l = record { few = omega (arith, w.few); below = λ q h. w.below q (omega arith) }
 
-module _ (rep held : List ℕ) {e : Event} {x : ℕ} where
-  pub due_learnt : e ≡ LN x → DueTold rep held e pick.Nothing
+module _ {rep held : List ℕ} {e : Event} {x : ℕ} where
+  pub due_learnt : e ≡ LN x → DueTold rep held e None
   due_learnt i = DueTold.nothing (λ y j. clash (cc))
 
   module _ (i : e ≡ MK x) {t : ℕ} (z : t ≡ class_at rep x) where
-    pub due_new : DueTold rep held e (pick.Mark t)
-    due_new = subst (λ y. DueTold rep held e (pick.Mark y)) (sym (z ∙ ap (λ k. class_at rep (aim k)) (sym i))) DueTold.due
+    due_new : DueTold rep held e (Some t)
+    due_new = subst (λ y. DueTold rep held e (Some y)) (sym (z ∙ ap (λ k. class_at rep (aim k)) (sym i))) DueTold.due
 
-    pub due_unheld : (On held t → ⊥) → DueTold rep held e pick.Nothing
+    due_unheld : (On held t → ⊥) → DueTold rep held e None
     due_unheld n = DueTold.nothing (λ y j o. let same : y ≡ x = cc in n (subst (On held) (ap (class_at rep) same ∙ sym z) o))
 
-module _ (rep held : List ℕ) {e : Event} where
-  told_due : {p : Pick} {t : ℕ} → DueTold rep held e p → p ≡ pick.Mark t → t ≡ class_at rep (aim e)
-  told_due DueTold.due i = cc
-  told_due (DueTold.nothing n) i = clash (cc)
+    pub due_pick : (u : Bool) → Decides u (On held t) → DueTold rep held e (then_some u t)
+    due_pick true d = due_new
+    due_pick false d = due_unheld (d.no refl)
 
-  told_none : {p : Pick} → DueTold rep held e p → p ≡ pick.Nothing → (x : ℕ) → e ≡ MK x → On held (class_at rep x) → ⊥
-  told_none DueTold.due i = clash (cc)
-  told_none (DueTold.nothing n) i = n
+module _ {rep held : List ℕ} {e : Event} where
+  pub due_low : {n : ℕ} → ClassRow n rep → {p : Option ℕ} {t : ℕ} → DueTold rep held e p → p ≡ Some t → (t ≤ 128) × (class_at rep t ≡ t)
+  due_low row {t = t} DueTold.due i = let z : class_at rep (aim e) ≡ t = cc in (omega (arith, row.low (aim e), z), subst (λ x. class_at rep x ≡ x) z (row.idem (aim e)))
+  due_low row (DueTold.nothing n) i = clash (cc)
 
-module _ {n : ℕ} {rep : List ℕ} (row : ClassRow n rep) (held run : List ℕ) where
-  pub due_none : {m : List ℕ} → length m ≡ 129 → MarkRow rep m → Due rep held run m 0
-  due_none l w = record { long = l; marked = w; makes = λ q x h. absurd (omega arith) }
+  due_told : {p : Option ℕ} {x : ℕ} → DueTold rep held e p → e ≡ MK x → On held (class_at rep x) → p ≡ Some (class_at rep x)
+  due_told DueTold.due i o = ap (λ y. Some (class_at rep (aim y))) i
+  due_told {x = x} (DueTold.nothing n) i o = absurd (n x i o)
 
-  module _ (q : ℕ) {k : Pick} {e : Event} (at : e ≡ event_in (get_or run q 0)) (told : DueTold rep held e k) where
-    pub due_low : {t : ℕ} → k ≡ pick.Mark t → t ≤ 128
-    due_low i = omega (arith, told_due rep held told i, row.low (aim e))
-
-    module _ {r : List ℕ} (w : Due rep held run r q) where
-      pub due_mark : {t : ℕ} → k ≡ pick.Mark t → Due rep held run (set r t 1) (q + 1)
-      due_mark {t} i =
-          let z : t ≡ class_at rep (aim e) = told_due rep held told i in
-          let x = wider_mark (due_low i) (subst (λ y. class_at rep y ≡ y) (sym z) (row.idem (aim e))) (wider_none w.long w.marked) in
-          record {
-            long = x.long;
-            marked = x.marked;
-            makes = λ d y l. below_more (λ d. event_in (get_or run d 0) ≡ MK y → On held (class_at rep y) → On (set r t 1) (class_at rep y)) q
-                (λ d l j o. x.kept (class_at rep y) (w.makes d y l j o))
-                (λ j o. subst (On (set r t 1)) (z ∙ ap (λ k. class_at rep (aim k)) (at ∙ j)) (set_on r t (omega (arith, w.long, due_low i))))
-                d l;
-          }
-
-      pub due_skip : k ≡ pick.Nothing → Due rep held run r (q + 1)
-      due_skip i = record {
-        long = w.long;
-        marked = w.marked;
-        makes = λ d y l. below_more (λ d. event_in (get_or run d 0) ≡ MK y → On held (class_at rep y) → On r (class_at rep y)) q (λ d l. w.makes d y l)
-            (λ j o. absurd (told_none rep held told i y (at ∙ j) o)) d l;
-      }
+pub due_picks : {P : ℕ → Option ℕ → Type 0} {n p : ℕ} {rep held run m r : List ℕ} → ClassRow n rep → MarkRow rep m →
+    ((q : ℕ) (k : Option ℕ) → q < p → P q k → DueTold rep held (event_in (get_or run q 0)) k) → Picks P m r p → Due rep held run r p
+due_picks {rep = rep} row marks told w =
+    let x = picks_wider (λ q t h p. (due_low row (told q (Some t) h p) refl).1) marks w in
+    record { long = x.long; marked = x.marked; makes = λ q y h i o. (let (j, p, u) = w.told q h in u (class_at rep y) (due_told (told q j h p) i o)) }
 
 -- ---- two rows in one
 
-module _ {a b : List ℕ} where
-  pub joint_none : length a ≡ 129 → Joint a b a 0
-  joint_none l = record { long = l; left = λ c o. o; right = λ c h. absurd (omega arith) }
-
-  module _ (c : ℕ) (h : c < 129) {r : List ℕ} (w : Joint a b r c) where
-    pub joint_mark : Joint a b (set r c 1) (c + 1)
-    joint_mark =
-        let i : c < length r = omega (arith, w.long) in
-        record { long = length-set r c 1 ∙ w.long; left = λ d o. set_kept r c i d (w.left d o); right = more_on (On b) r c i w.right }
-
-    pub joint_skip : (On b c → ⊥) → Joint a b r (c + 1)
-    joint_skip none = record { long = w.long; left = w.left; right = more_off (On b) r c none w.right }
+pub joint_picks : {P : ℕ → Option ℕ → Type 0} {a b r : List ℕ} {n : ℕ} →
+    ((c : ℕ) (k : Option ℕ) → c < n → P c k → (t : Bool) × (k ≡ then_some t c) × Decides t (On b c)) → Picks P a r n → Joint a b r n
+joint_picks told w = record { long = w.long; left = w.kept; right = picks_all told w }

@@ -1,13 +1,11 @@
 -- The marks that the sets of a step start from, as loops compute them from the marks of what is seen and built.
--- EndsAt: the classes of parts; Wider: more marks; BareAt, BareTo: the bare cells; LacksKey, KeyTold, Keyed: keys; FreeAt, FreeSeen: free cells; DueTold, Due: what is to be made; Joint: two rows.
-use Rattle.std.specs.Prelude.{◌≡◌, List, ℕ, ◌≤◌, ◌<◌, length, get_or}
+-- EndsAt: the classes of parts; Wider: more marks; Picks: what a loop picks; BareAt, BareTo: the bare cells; LacksKey, KeyTold, Keyed: keys; FreeAt, FreeSeen: free cells; DueTold, Due: what is to be made; Joint: two rows.
+use Rattle.std.specs.Prelude.{Option, Some, None, ◌≡◌, ◌⊎◌, List, ℕ, ◌≤◌, ◌<◌, length, get_or}
 use Rattle.model.specs.Case.{VA, PR, SE, Event, MK, Table, Part}
 use Rattle.model.specs.Stored.{event_in, aim}
 use Rattle.theory.specs.Cells.{Makes, class_at, On}
 use Rattle.knowledge.specs.Knowledge.{MarkRow}
 use Rattle.knowledge.specs.Sweeps.{left_class, right_class}
-use Rattle.wants.specs.declared.starts.Pick.{Pick}
-use Rattle.wants.specs.declared.starts.Pick.TheVariants as pick
 
 -- The cells l and r stand for the classes of the parts of c.
 pub record EndsAt (T : Table) (rep : List ℕ) (c l r : ℕ) : Type 0 where
@@ -21,6 +19,13 @@ pub record Wider (rep m r : List ℕ) : Type 0 where
   pub long : length r ≡ 129
   pub marked : MarkRow rep r
   pub kept : (c : ℕ) → On m c → On r c
+
+-- The row r has what P picks below `upto`, and else the marks of m.
+pub record Picks (P : ℕ → Option ℕ → Type 0) (m r : List ℕ) (upto : ℕ) : Type 0 where
+  pub long : length r ≡ 129
+  pub kept : (c : ℕ) → On m c → On r c
+  pub told : (d : ℕ) → d < upto → (k : Option ℕ) × P d k × ((t : ℕ) → k ≡ Some t → On r t)
+  pub only : (c : ℕ) → (get_or r c 0 ≡ get_or m c 0) ⊎ (On r c × ((d : ℕ) × (d < upto) × P d (Some c)))
 
 -- The cell c is seen, is no pair, has parts, and is not made of built cells.
 pub record BareAt (T : Table) (rep seens builts : List ℕ) (c : ℕ) : Type 0 where
@@ -43,9 +48,9 @@ pub record LacksKey (T : Table) (rep seens builts : List ℕ) (c k : ℕ) : Type
   pub lacks : On builts (class_at rep k) → ⊥
 
 -- What is found at c: the class of its key, or that it is no such seal.
-pub data KeyTold (T : Table) (rep seens builts : List ℕ) (c : ℕ) : Pick → Type 0 where
-  key : {b k : ℕ} → T c ≡ SE b k → KeyTold T rep seens builts c (pick.Mark (class_at rep k))
-  nothing : ((k : ℕ) → LacksKey T rep seens builts c k → ⊥) → KeyTold T rep seens builts c pick.Nothing
+pub data KeyTold (T : Table) (rep seens builts : List ℕ) (c : ℕ) : Option ℕ → Type 0 where
+  key : {b k : ℕ} → T c ≡ SE b k → KeyTold T rep seens builts c (Some (class_at rep k))
+  nothing : ((k : ℕ) → LacksKey T rep seens builts c k → ⊥) → KeyTold T rep seens builts c None
 
 -- The row r has the marks of m, and the keys of such seals below `upto`.
 pub record Keyed (T : Table) (rep seens builts m r : List ℕ) (upto : ℕ) : Type 0 where
@@ -63,9 +68,9 @@ pub record FreeSeen (T : Table) (rep seens r : List ℕ) (upto : ℕ) : Type 0 w
   pub free : (c : ℕ) → c < upto → FreeAt T seens c → On r c
 
 -- What is found at an event: the class of its cell, if it is to be made and marked in the row `held`.
-pub data DueTold (rep held : List ℕ) (e : Event) : Pick → Type 0 where
-  due : DueTold rep held e (pick.Mark (class_at rep (aim e)))
-  nothing : ((x : ℕ) → e ≡ MK x → On held (class_at rep x) → ⊥) → DueTold rep held e pick.Nothing
+pub data DueTold (rep held : List ℕ) (e : Event) : Option ℕ → Type 0 where
+  due : DueTold rep held e (Some (class_at rep (aim e)))
+  nothing : ((x : ℕ) → e ≡ MK x → On held (class_at rep x) → ⊥) → DueTold rep held e None
 
 -- The row r has the classes of the cells to be made before p that are marked in the row `held`.
 pub record Due (rep held run r : List ℕ) (p : ℕ) : Type 0 where

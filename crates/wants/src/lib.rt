@@ -6,5 +6,4 @@ pub mod sets;
 mod spread;
 mod starts;
 
-pub use spread::Swept;
-pub use starts::{Pick, bares, ends, free_at};
+pub use starts::{bares, ends, free_at};

@@ -7,17 +7,17 @@ ghost use Rattle.wants.specs.Starts.{Wider, Joint};
 ghost use Rattle.wants.specs.Sets.{NeedRow, HeldRow, OverRow, WantedRow};
 
 use super::spread::{lowered, raised};
-use super::starts::{due, free_seen, keys};
+use super::starts::{due, free_seen, keys, picked};
 use cells::{Run, Table, aim_of, event_at};
 use knowledge::{Marks, cell, learn};
 
 // The marks of `start`, the keys that are not built of the seals that are seen, and of such cells the parts that are not built.
-pub fn needed<'a>(
-    table: &'a Table,
+pub fn needed(
+    table: &Table,
     n: usize,
-    rep: &'a [u8; 129],
-    seen: &'a [u8; 129],
-    built: &'a [u8; 129],
+    rep: &[u8; 129],
+    seen: &[u8; 129],
+    built: &[u8; 129],
     start: [u8; 129],
 ) -> [u8; 129]
     requires table_words { TableWords n table.now }
@@ -32,23 +32,22 @@ pub fn needed<'a>(
 }
 
 // The cells that hold a free class that is seen.
-pub fn holds<'a>(table: &'a Table, n: usize, rep: &'a [u8; 129], seen: &'a [u8; 129]) -> [u8; 129]
+pub fn holds(table: &Table, n: usize, rep: &[u8; 129], seen: &[u8; 129]) -> [u8; 129]
     requires table_words { TableWords n table.now }
     requires class_row { ClassRow n rep.now }
     requires mark_row { MarkRow rep.now seen.now }
     ensures { HeldRow (table_in table.now) rep.now seen.now result }
 {
-    let m = free_seen(table, n, rep, seen);
-    raised(table, n, rep, m)
+    raised(table, n, rep, free_seen(table, n, rep, seen))
 }
 
 // The cells that are to be made before p, and their parts, as far as they hold a free class that is seen.
-pub fn over<'a>(
-    table: &'a Table,
+pub fn over(
+    table: &Table,
     n: usize,
-    rep: &'a [u8; 129],
-    hold: &'a [u8; 129],
-    run: &'a Run,
+    rep: &[u8; 129],
+    hold: &[u8; 129],
+    run: &Run,
     p: usize,
 ) -> [u8; 129]
     requires table_words { TableWords n table.now }
@@ -64,26 +63,11 @@ pub fn over<'a>(
 fn joint(a: [u8; 129], b: [u8; 129]) -> [u8; 129]
     ensures { Joint a b result 129 }
 {
-    let mut m = a;
-    let mut c = 0;
-    while c < 129 {
-        if b[c] == 1 {
-            m[c] = 1;
-        }
-        c += 1;
-    }
-    m
+    picked(129, a, |c| (b[c] == 1).then_some(c))
 }
 
 // The cells that may have to be made equal to a bare one, at the MK at p, by the marks of what is seen and built.
-pub fn wanted<'a>(
-    table: &'a Table,
-    n: usize,
-    rep: &'a [u8; 129],
-    o: Marks,
-    run: &'a Run,
-    p: usize,
-) -> [u8; 129]
+pub fn wanted(table: &Table, n: usize, rep: &[u8; 129], o: Marks, run: &Run, p: usize) -> [u8; 129]
     requires table_words { TableWords n table.now }
     requires class_row { ClassRow n rep.now }
     requires mark_row { MarkRow rep.now o.seen }

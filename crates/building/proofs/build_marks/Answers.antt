@@ -1,26 +1,14 @@
 -- `building::build_marks` keeps its promise: each way out cites the law of its reply.
 use native.Mathlib.Omega.{arith}
+use borrow.Author.Rules.{rules}
 use Rattle.model.proofs.Accepted.{Bytes}
 use Rattle.knowledge.proofs.ClassRows.{kept_row}
-use Rattle.casefile.proofs.CaseFile.{case_refused, case_accepted, case_variable, case_words, case_events}
-use Rattle.building.proofs.PromiseLaws.{promise_refused, promise_variable}
-use Rattle.building.proofs.CaseLaws.{answer_short, answer_marks}
+use Rattle.casefile.proofs.CaseFile.{case_accepted, case_words, case_events}
+use Rattle.building.proofs.CaseLaws.{answer_marks}
 use Rattle.building.proofs.build_marks.Goals as goal
 
-pub returns-in-Refused : goal.returns-in-Refused
-returns-in-Refused c = promise_refused c.args.file.now c.args.out.now _ _ (case_refused c.args.file.now c.read_case-case.result c.read_case-case.ensures _ _ c.in-Refused.is)
-
-pub returns-in-At : goal.returns-in-At
-returns-in-At c =
-    let w = case_accepted c.args.file.now c.read_case-case.result c.read_case-case.ensures c.in_default.is in
-    promise_variable c.args.file.now c.args.out.now w.f w.read _ (case_variable w _ c.in-At.is)
-
-pub returns-then-out-n : goal.returns-then-out-n
-returns-then-out-n c =
-    answer_short (case_accepted c.args.file.now c.read_case-case.result c.read_case-case.ensures c.in_default.is) c.in_default-variable.is c.args.out.now c.if-out-n.true
-
-pub open_heard-k-requires : goal.open_heard-k-requires
-open_heard-k-requires c =
+pub open_heard-known-requires : goal.open_heard-known-requires
+open_heard-known-requires c =
     let every : Bytes c.args.file.now = λ i. omega (arith, c.type_inv.file i) in
     let w = case_accepted c.args.file.now c.read_case-case.result c.read_case-case.ensures c.in_default.is in
     record { table_words = case_words w every; run_words = case_events w }
@@ -29,10 +17,10 @@ pub lay_marks-requires : goal.lay_marks-requires
 lay_marks-requires c =
     let every : Bytes c.args.file.now = λ i. omega (arith, c.type_inv.file i) in
     let words = case_words (case_accepted c.args.file.now c.read_case-case.result c.read_case-case.ensures c.in_default.is) every in
-    record { n_bound = words.few; by_index = (kept_row words c.open_heard-k.ensures.classes.solved.kept).low; n_in_bounds = c.if-out-n.false }
+    record { n_bound = words.few; by_index = (kept_row words c.open_heard-known.ensures.classes.solved.kept).low; n_in_bounds = c.if-out-n.false }
 
 pub returns : goal.returns
 returns c =
     let every : Bytes c.args.file.now = λ i. omega (arith, c.type_inv.file i) in
     let w = case_accepted c.args.file.now c.read_case-case.result c.read_case-case.ensures c.in_default.is in
-    answer_marks w c.in_default-variable.is c.args.out.now every c.open_heard-k.ensures c.if-out-n.false c.lay_marks.ensures
+    answer_marks w (search rules) c.args.out.now every c.open_heard-known.ensures c.if-out-n.false c.lay_marks.ensures

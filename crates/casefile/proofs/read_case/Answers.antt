@@ -1,37 +1,10 @@
 -- The cells are read first, then the events of the part of the file that begins where the cell records end; a refusal of either is the file's.
-use mathlib.Core.Path.{sym, ◌∙◌, ap, subst}
-use native.Mathlib.Omega.{arith}
-use Rattle.casefile.specs.Cells.{cells_read}
-use Rattle.casefile.specs.Case.{case_of}
-use Rattle.casefile.proofs.CaseLaws.{part_length, table_lower, table_few, reply_refused, reply_accepted}
+use Rattle.casefile.proofs.CaseLaws.{table_lower, reply_accepted}
 use Rattle.casefile.proofs.read_case.Goals as goal
 
-pub slice_bounds-read_events-count : goal.slice_bounds-read_events-count
-slice_bounds-read_events-count c =
-    let cut = subst (λ s. cells_read c.args.file.now s c.read_cells-read.result.at c.read_cells-read.result.table) c.in-Events.is c.read_cells-read.ensures in
-    cut.place
+pub read_events-requires-clause-lower : goal.read_events-requires-clause-lower
+read_events-requires-clause-lower c = table_lower c.args.file.now c.in-Ok.read.at c.in-Ok.read.table c.in-Ok.ensures
 
-pub read_events-end-requires : goal.read_events-end-requires
-read_events-end-requires c =
-    let cut = subst (λ s. cells_read c.args.file.now s c.read_cells-read.result.at c.read_cells-read.result.table) c.in-Events.is c.read_cells-read.ensures in
-    let e = part_length c.args.file.now c.read_cells-read.result.at c.read_cells-read.result.table cut in
-    record { lower = table_lower c.args.file.now c.read_cells-read.result.at c.read_cells-read.result.table cut; count_bound = table_few c.args.file.now c.read_cells-read.result.at c.read_cells-read.result.table cut; rest_bound = omega arith }
-
-pub first_variable-requires : goal.first_variable-requires
-first_variable-requires c =
-    let cut = subst (λ s. cells_read c.args.file.now s c.read_cells-read.result.at c.read_cells-read.result.table) c.in-Events.is c.read_cells-read.ensures in
-    table_few c.args.file.now c.read_cells-read.result.at c.read_cells-read.result.table cut
-
-pub returns-in-Refused : goal.returns-in-Refused
-returns-in-Refused c =
-    c.refused.ensures ∙ sym (ap case_of (subst (λ s. cells_read c.args.file.now s c.read_cells-read.result.at c.read_cells-read.result.table) c.in-Refused.is c.read_cells-read.ensures).0)
-
-pub returns-in-Refused-verdict : goal.returns-in-Refused-verdict
-returns-in-Refused-verdict c =
-    let cut = subst (λ s. cells_read c.args.file.now s c.read_cells-read.result.at c.read_cells-read.result.table) c.in-Events.is c.read_cells-read.ensures in
-    c.refused-in-Refused-verdict.ensures ∙ reply_refused c.args.file.now c.read_cells-read.result.at c.read_cells-read.result.table cut c.read_events-end.result c.read_events-end.ensures _ _ c.in-Refused-verdict.is
-
-pub returns-in-Accepted : goal.returns-in-Accepted
-returns-in-Accepted c =
-    let cut = subst (λ s. cells_read c.args.file.now s c.read_cells-read.result.at c.read_cells-read.result.table) c.in-Events.is c.read_cells-read.ensures in
-    reply_accepted c.args.file.now c.read_cells-read.result.at c.read_cells-read.result.table cut c.read_events-end.result c.read_events-end.ensures _ c.in-Accepted.is c.first_variable.ensures
+pub returns-in-Ok-read_events : goal.returns-in-Ok-read_events
+returns-in-Ok-read_events c =
+    rw c.as_found.ensures (reply_accepted c.args.file.now c.in-Ok.read.at c.in-Ok.read.table c.in-Ok.ensures _ c.in-Ok-read_events.ensures c.first_variable.result c.first_variable.ensures)

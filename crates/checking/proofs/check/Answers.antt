@@ -1,36 +1,27 @@
--- Each reply by its law: the file's refusals, the length, the first entry of bad form, and whether the list is right.
+-- Each reply by its law: the first entry of bad form, and whether the list is right.
 use native.Mathlib.Omega.{arith}
-use Rattle.casefile.proofs.CaseFile.{case_refused, case_accepted}
-use Rattle.checking.proofs.PromiseLaws.{promise_refused}
-use Rattle.checking.proofs.CaseLaws.{judged_size, judged_form, judged_words, judged_right, judged_wrong}
+use Rattle.casefile.proofs.CaseFile.{CaseFile, case_accepted}
+use Rattle.checking.proofs.CaseLaws.{judged_form, judged_words, judged_right, judged_wrong}
 use Rattle.checking.proofs.check.Goals as goal
+use Rattle.checking.proofs.check.Goals.{In_default}
 
-pub returns-in-Refused : goal.returns-in-Refused
-returns-in-Refused c =
-    promise_refused c.args.file.now c.args.list.now _ _ (case_refused c.args.file.now c.read_case-case.result c.read_case-case.ensures _ _ c.in-Refused.is)
+accepted : (c : In_default) → CaseFile c.args.file.now c.read_case-case.result
+accepted c = case_accepted c.args.file.now c.read_case-case.result c.read_case-case.ensures c.in_default.is
 
-pub returns-then-list-n : goal.returns-then-list-n
-returns-then-list-n c =
-    judged_size (case_accepted c.args.file.now c.read_case-case.result c.read_case-case.ensures c.in_default.is) c.args.list.now (λ e. omega (arith, c.if-list-n.true))
-
-pub first_bad-bad-requires : goal.first_bad-bad-requires
-first_bad-bad-requires c = c.if-list-n.false
-
-pub returns-then-bad-n : goal.returns-then-bad-n
-returns-then-bad-n c =
-    judged_form (case_accepted c.args.file.now c.read_case-case.result c.read_case-case.ensures c.in_default.is) c.args.list.now (λ i. omega (arith, c.type_inv.file i)) c.if-list-n.false c.first_bad-bad.result c.first_bad-bad.ensures c.if-bad-n.true
+pub returns-in-Some : goal.returns-in-Some
+returns-in-Some c = judged_form (accepted (goal.at.returns-in-Some c).In_default) (λ i. omega (arith, c.type_inv.file i)) c.args.list.now (omega arith) c.in-Some.ensures
 
 pub is_right-requires : goal.is_right-requires
 is_right-requires c =
-    let (w, (e, f)) = judged_words (case_accepted c.args.file.now c.read_case-case.result c.read_case-case.ensures c.in_default.is) c.args.list.now (λ i. omega (arith, c.type_inv.file i)) c.if-list-n.false c.first_bad-bad.result c.first_bad-bad.ensures (omega (arith, c.if-bad-n.false)) in
+    let (w, (e, f)) = judged_words (accepted (goal.at.is_right-requires c).In_default) (λ i. omega (arith, c.type_inv.file i)) c.args.list.now (omega arith) c.in_default-first_bad.ensures in
     record { table_words = w; run_words = e; form = f }
 
 pub returns-then-is_right : goal.returns-then-is_right
 returns-then-is_right c =
-    judged_right (case_accepted c.args.file.now c.read_case-case.result c.read_case-case.ensures c.in_default.is) c.args.list.now (λ i. omega (arith, c.type_inv.file i)) c.if-list-n.false c.first_bad-bad.result c.first_bad-bad.ensures (omega (arith, c.if-bad-n.false))
+    judged_right (accepted (goal.at.returns-then-is_right c).In_default) (λ i. omega (arith, c.type_inv.file i)) c.args.list.now (omega arith) c.in_default-first_bad.ensures
     (c.is_right.ensures.yes c.if-is_right.true)
 
-pub returns : goal.returns
-returns c =
-    judged_wrong (case_accepted c.args.file.now c.read_case-case.result c.read_case-case.ensures c.in_default.is) c.args.list.now (λ i. omega (arith, c.type_inv.file i)) c.if-list-n.false c.first_bad-bad.result c.first_bad-bad.ensures (omega (arith, c.if-bad-n.false))
+pub returns-else-is_right : goal.returns-else-is_right
+returns-else-is_right c =
+    judged_wrong (accepted (goal.at.returns-else-is_right c).In_default) (λ i. omega (arith, c.type_inv.file i)) c.args.list.now (omega arith) c.in_default-first_bad.ensures
     (c.is_right.ensures.no c.if-is_right.false)

@@ -1,5 +1,4 @@
 -- Following the list as classes, putting cells of one message together, and marking event by event, each by its contract.
-use native.Mathlib.Omega.{arith}
 use borrow.Author.Tests.{not-true, not-false}
 use mathlib.Core.Path.{subst}
 use mathlib.Core.Bool.{Bool}
@@ -10,21 +9,18 @@ use Rattle.knowledge.proofs.ClassRows.{kept_row}
 use Rattle.checking.proofs.RightLaws.{words_own, inside_own, right_round, right_yes, right_no}
 use Rattle.checking.proofs.is_right.Goals as goal
 
-pub put_own-owned-requires : goal.put_own-owned-requires
-put_own-owned-requires c = omega (arith, c.requires.table_words.few, c.requires.form.size)
-
-pub follow-f-requires : goal.follow-f-requires
-follow-f-requires c =
+pub follow-followed-requires : goal.follow-followed-requires
+follow-followed-requires c =
     let form = c.requires.form in record { table_words = words_own c.args.n c.args.table.now c.args.list.now c.put_own-owned.result c.requires.table_words form c.put_own-owned.ensures; list_len = form.size; inside = inside_own c.args.n c.args.table.now c.args.list.now c.put_own-owned.result c.requires.table_words form c.put_own-owned.ensures }
 
-pub returns-then-not-f : goal.returns-then-not-f
-returns-then-not-f c =
+pub returns-then-not-followed : goal.returns-then-not-followed
+returns-then-not-followed c =
     decides_no (right_round c.args.n c.args.table.now c.args.list.now c.put_own-owned.result c.requires.table_words c.requires.form c.put_own-owned.ensures
-    (run_in c.args.count c.args.run.now) c.follow-f.result c.follow-f.ensures (not-true _ c.if-not-f.true))
+    (run_in c.args.count c.args.run.now) c.follow-followed.result c.follow-followed.ensures (not-true _ c.if-not-followed.true))
 
 pub raise-rep-requires : goal.raise-rep-requires
 raise-rep-requires c =
-    record { table_words = words_own c.args.n c.args.table.now c.args.list.now c.put_own-owned.result c.requires.table_words c.requires.form c.put_own-owned.ensures; solved = c.follow-f.ensures.solved (not-false _ c.if-not-f.false) }
+    record { table_words = words_own c.args.n c.args.table.now c.args.list.now c.put_own-owned.result c.requires.table_words c.requires.form c.put_own-owned.ensures; solved = c.follow-followed.ensures.solved (not-false _ c.if-not-followed.false) }
 
 pub all_made-requires : goal.all_made-requires
 all_made-requires c =
@@ -36,9 +32,9 @@ returns c =
     let T = table_in c.put_own-owned.result in
     record {
       yes = λ e. right_yes c.args.n c.args.table.now c.args.list.now c.put_own-owned.result c.requires.table_words c.requires.form c.put_own-owned.ensures ev
-          c.follow-f.result c.follow-f.ensures (not-false _ c.if-not-f.false) c.raise-rep.result c.raise-rep.ensures
+          c.follow-followed.result c.follow-followed.ensures (not-false _ c.if-not-followed.false) c.raise-rep.result c.raise-rep.ensures
           (subst (λ (b : Bool). AllMade T c.raise-rep.result ev b) e c.all_made.ensures);
       no = λ e. right_no c.args.n c.args.table.now c.args.list.now c.put_own-owned.result c.requires.table_words c.requires.form c.put_own-owned.ensures ev
-          c.follow-f.result c.follow-f.ensures (not-false _ c.if-not-f.false) c.raise-rep.result c.raise-rep.ensures
+          c.follow-followed.result c.follow-followed.ensures (not-false _ c.if-not-followed.false) c.raise-rep.result c.raise-rep.ensures
           (subst (λ (b : Bool). AllMade T c.raise-rep.result ev b) e c.all_made.ensures);
     }

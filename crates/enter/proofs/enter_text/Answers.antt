@@ -7,12 +7,12 @@ use Rattle.grammar.specs.Text.{refused, said}
 use Rattle.enter.proofs.EnterLaws.{refused_told, said_told}
 use Rattle.enter.proofs.enter_text.Goals as goal
 
-pub returns-in-Refused : goal.returns-in-Refused
-returns-in-Refused g c =
-    let t = refused_told c.args.text.now _ _ _ c.in-Refused.number c.in-Refused.place c.file_of-entered.ensures c.in-Refused.is in
-    on_ok_weaker c.tell_refusal.result (λ a. (refused c.in-Refused.number c.in-Refused.place, t, (Keeps-refl _, a))) c.tell_refusal.ensures
+pub returns-in-Err : goal.returns-in-Err
+returns-in-Err g c =
+    let t = refused_told c.args.text.now _ _ c.in-Err.refusal c.in-Err.ensures in
+    on_ok_weaker c.tell_refusal.result (λ a. (refused _ _, t, (Keeps-refl _, a))) c.tell_refusal.ensures
 
-pub returns-in-Ok : goal.returns-in-Ok
-returns-in-Ok g c =
-    let (es, t, z) = said_told c.args.text.now _ _ _ c.in-Written.size c.file_of-entered.ensures c.in-Written.is in
-    (said es, t, (subst (Appends _ _) z c.in-Ok.ensures.bytes, Keeps-refl _))
+pub returns-in-Ok-write_all : goal.returns-in-Ok-write_all
+returns-in-Ok-write_all g c =
+    let (es, t, z) = said_told c.args.text.now _ _ c.in-Ok.size c.in-Ok.ensures in
+    (said es, t, (subst (Appends _ _) z c.in-Ok-write_all.ensures.bytes, Keeps-refl _))

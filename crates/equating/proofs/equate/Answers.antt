@@ -1,34 +1,11 @@
 -- A refused file is replied to as it was read; then the two numbers and the buffer are tested, and the classes of the two cells in one, with all that this asks for, decide.
 use native.Mathlib.Omega.{arith}
-use borrow.Author.Tests.{not-true, not-false}
-use Rattle.casefile.proofs.CaseFile.{case_refused, case_accepted, case_words}
-use Rattle.equating.proofs.PromiseLaws.{promise_refused, reply_outside, case_inside, reply_short, reply_no, reply_listed}
+use Rattle.casefile.proofs.CaseFile.{case_accepted, case_words}
+use Rattle.equating.proofs.PromiseLaws.{case_inside, reply_no, reply_listed}
 use Rattle.equating.proofs.equate.Goals as goal
-
-pub returns-in-Refused : goal.returns-in-Refused
-returns-in-Refused c =
-    promise_refused c.args.file.now c.args.a c.args.b c.args.out.now _ _ (case_refused c.args.file.now c.read_case-read.result c.read_case-read.ensures _ _ c.in-Refused.is)
-
-pub returns-then-outside : goal.returns-then-outside
-returns-then-outside c =
-    reply_outside (case_accepted c.args.file.now c.read_case-read.result c.read_case-read.ensures c.in_default.is) c.args.a c.args.b c.args.out.now (c.outside.ensures.yes c.if-outside.true)
-
-pub returns-then-out-n : goal.returns-then-out-n
-returns-then-out-n c =
-    reply_short (case_accepted c.args.file.now c.read_case-read.result c.read_case-read.ensures c.in_default.is) c.args.a c.args.b c.args.out.now (c.outside.ensures.no c.if-outside.false) c.if-out-n.true
 
 pub start-rep-requires : goal.start-rep-requires
 start-rep-requires c = case_words (case_accepted c.args.file.now c.read_case-read.result c.read_case-read.ensures c.in_default.is) (λ i. omega (arith, c.type_inv.file i))
-
-pub overflow_cast-a : goal.overflow_cast-a
-overflow_cast-a c =
-    let (h, k) = case_inside (case_accepted c.args.file.now c.read_case-read.result c.read_case-read.ensures c.in_default.is) c.args.a c.args.b c.args.out.now (c.outside.ensures.no c.if-outside.false) in
-    omega (arith, (case_words (case_accepted c.args.file.now c.read_case-read.result c.read_case-read.ensures c.in_default.is) (λ i. omega (arith, c.type_inv.file i))).few)
-
-pub overflow_cast-b : goal.overflow_cast-b
-overflow_cast-b c =
-    let (h, k) = case_inside (case_accepted c.args.file.now c.read_case-read.result c.read_case-read.ensures c.in_default.is) c.args.a c.args.b c.args.out.now (c.outside.ensures.no c.if-outside.false) in
-    omega (arith, (case_words (case_accepted c.args.file.now c.read_case-read.result c.read_case-read.ensures c.in_default.is) (λ i. omega (arith, c.type_inv.file i))).few)
 
 pub unify-joined-requires : goal.unify-joined-requires
 unify-joined-requires c =
@@ -37,12 +14,9 @@ unify-joined-requires c =
 pub returns-then-not-joined : goal.returns-then-not-joined
 returns-then-not-joined c =
     reply_no (case_accepted c.args.file.now c.read_case-read.result c.read_case-read.ensures c.in_default.is) c.args.a c.args.b c.args.out.now (c.outside.ensures.no c.if-outside.false) c.if-out-n.false (λ i. omega (arith, c.type_inv.file i))
-    c.start-rep.result c.start-rep.ensures c.unify-joined.result c.unify-joined.ensures (not-true _ c.if-not-joined.true)
-
-pub write_list-requires : goal.write_list-requires
-write_list-requires c = ((case_words (case_accepted c.args.file.now c.read_case-read.result c.read_case-read.ensures c.in_default.is) (λ i. omega (arith, c.type_inv.file i))).few, c.if-out-n.false)
+    c.start-rep.result c.start-rep.ensures c.unify-joined.result c.unify-joined.ensures c.if-not-joined.true
 
 pub returns : goal.returns
 returns c =
     reply_listed (case_accepted c.args.file.now c.read_case-read.result c.read_case-read.ensures c.in_default.is) c.args.a c.args.b c.args.out.now (c.outside.ensures.no c.if-outside.false) c.if-out-n.false (λ i. omega (arith, c.type_inv.file i))
-    c.start-rep.result c.start-rep.ensures c.unify-joined.result c.unify-joined.ensures (not-false _ c.if-not-joined.false) _ c.write_list.ensures
+    c.start-rep.result c.start-rep.ensures c.unify-joined.result c.unify-joined.ensures c.if-not-joined.false _ c.write_list.ensures

@@ -2,14 +2,14 @@
 use Rattle.knowledge.proofs.ByKind.{locked_key, gives_open, gives_locked, gives_shut}
 use Rattle.knowledge.proofs.gives.Goals as goal
 
-pub has-requires : goal.has-requires
-has-requires c = record { class_row = c.requires.class_row; x_bound = c.requires.by_index _ (locked_key c.opens-o.ensures c.in-Locked.is) }
+pub has-requires-clause-x_bound : goal.has-requires-clause-x_bound
+has-requires-clause-x_bound c = c.requires.by_index _ (locked_key c.opens.ensures c.in-Locked.is)
 
 pub returns-in-Open : goal.returns-in-Open
-returns-in-Open c = gives_open c.opens-o.ensures c.in-Open.is
+returns-in-Open c = gives_open c.opens.ensures c.in-Open.is
 
 pub returns-in-Locked : goal.returns-in-Locked
-returns-in-Locked c = gives_locked c.opens-o.ensures c.in-Locked.is c.has.ensures
+returns-in-Locked c = gives_locked c.opens.ensures c.in-Locked.is c.has.ensures
 
 pub returns-in-Shut : goal.returns-in-Shut
-returns-in-Shut c = gives_shut c.opens-o.ensures c.in-Shut.is c.is_made.ensures
+returns-in-Shut c = gives_shut c.opens.ensures c.in-Shut.is c.is_made.ensures

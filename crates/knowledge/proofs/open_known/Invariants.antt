@@ -5,8 +5,8 @@ use Rattle.knowledge.specs.Sweeps.{missing}
 use Rattle.knowledge.proofs.Closing.{Between}
 use Rattle.knowledge.proofs.open_known.Given as goal
 
-abbrev pub invariant-loop-s : goal.invariant-loop-s
-invariant-loop-s l = Between (table_in l.table) l.rep l.initial.s l.initial.b l.s l.b
+abbrev pub invariant-loop-seen : goal.invariant-loop-seen
+invariant-loop-seen l = Between (table_in l.table) l.rep l.initial.seen l.initial.built l.seen l.built
 
-abbrev pub decreases-loop-s : goal.decreases-loop-s
-decreases-loop-s l = missing l.s + missing l.b
+abbrev pub decreases-loop-seen : goal.decreases-loop-seen
+decreases-loop-seen l = missing l.seen + missing l.built

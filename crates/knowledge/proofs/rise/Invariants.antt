@@ -1,11 +1,7 @@
 -- `knowledge::rise` meets its contract: the invariant is what the sweep promises, for the cells passed.
-use Prim.Native.Nat.{◌≤◌, ◌-◌}
 use Rattle.model.specs.Stored.{table_in}
 use Rattle.knowledge.specs.Sweeps.{Rising}
 use Rattle.knowledge.proofs.rise.Given as goal
 
 abbrev pub invariant-loop-c : goal.invariant-loop-c
-invariant-loop-c l = (Rising (table_in l.table) l.rep l.seen l.initial.built l.built l.changed l.c) × (l.c ≤ l.n)
-
-abbrev pub decreases-loop-c : goal.decreases-loop-c
-decreases-loop-c l = l.n - l.c
+invariant-loop-c l = Rising (table_in l.table) l.rep l.seen l.initial.built l.built l.changed l.c

@@ -2,7 +2,7 @@
 use mathlib.Core.Path.{◌≡◌}
 use Prim.Native.Nat.{◌+◌, ◌≤◌}
 use native.Mathlib.Omega.{arith}
-use Rattle.printing.proofs.PutLaws.{put_join}
+use Rattle.lines.proofs.PutLaws.{put_join}
 use Rattle.printing.proofs.put_counts.Goals as goal
 
 pub returns : goal.returns

@@ -2,14 +2,9 @@
 use mathlib.Core.Path.{◌≡◌}
 use Prim.Native.Nat.{◌+◌, ◌≤◌}
 use native.Mathlib.Omega.{arith}
-use Rattle.printing.proofs.PutLaws.{put_join}
-use Rattle.printing.proofs.LineLaws.{put_own, put_cell}
+use Rattle.lines.proofs.PutLaws.{put_join}
+use Rattle.printing.proofs.LineLaws.{put_cell}
 use Rattle.printing.proofs.put_entry.Goals as goal
-
-pub returns-then-entry-eq255 : goal.returns-then-entry-eq255
-returns-then-entry-eq255 c =
-    let e : c.put_text.result ≡ c.args.at + 7 = c.put_text.ensures.end in
-    (put_own c.args.entry c.if-entry-eq255.true c.put_text.ensures, omega arith)
 
 pub returns : goal.returns
 returns c =

@@ -1,5 +1,5 @@
 -- The second line behind the first.
-use Rattle.printing.proofs.PutLaws.{put_join}
+use Rattle.lines.proofs.PutLaws.{put_join}
 use Rattle.printing.proofs.put_no.Goals as goal
 
 pub returns : goal.returns

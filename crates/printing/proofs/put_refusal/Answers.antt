@@ -1,5 +1,5 @@
 -- The parts of the line, one behind the other.
-use Rattle.printing.proofs.PutLaws.{put_join}
+use Rattle.lines.proofs.PutLaws.{put_join}
 use Rattle.printing.proofs.put_refusal.Goals as goal
 
 pub returns : goal.returns

@@ -1,7 +1,10 @@
--- The number behind the text.
+-- The number has at most three digits.
 use native.Mathlib.Omega.{arith}
-use Rattle.printing.proofs.PutLaws.{put_join}
+use Rattle.printing.proofs.PutLaws.{told_short}
 use Rattle.printing.proofs.put_told.Goals as goal
 
+pub put_told-requires : goal.put_told-requires
+put_told-requires c = omega (arith, c.requires.1, told_short c.args.text.now c.args.n c.requires.0)
+
 pub returns : goal.returns
-returns c = (put_join c.put_text-next.ensures c.put_number.ensures.0, omega (arith, c.put_text-next.ensures.end, c.put_number.ensures.1))
+returns c = (c.put_told.ensures, omega (arith, c.put_told.ensures.end, told_short c.args.text.now c.args.n c.requires.0))

@@ -1,7 +1,7 @@
 -- The value behind the variable.
 use Prim.Native.Nat.{◌+◌, ◌≤◌}
 use native.Mathlib.Omega.{arith}
-use Rattle.printing.proofs.PutLaws.{put_join}
+use Rattle.lines.proofs.PutLaws.{put_join}
 use Rattle.printing.proofs.put_value.Goals as goal
 
 pub returns : goal.returns

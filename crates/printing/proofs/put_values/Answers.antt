@@ -1,26 +1,14 @@
 -- The loop's invariant: the lines of the variables below v stand from `at` on.
-use mathlib.Core.Path.{◌≡◌, refl, ◌∙◌, subst}
+use mathlib.Core.Path.{refl, ◌∙◌}
 use native.Mathlib.Omega.{arith}
 use Rattle.model.specs.Stored.{table_in}
-use Rattle.printing.specs.Lines.{value_lines}
-use Rattle.printing.specs.Put.{Put}
-use Rattle.printing.proofs.PutLaws.{put_kept}
+use Rattle.lines.proofs.PutLaws.{put_kept}
 use Rattle.printing.proofs.LineLaws.{put_first, put_next}
 use Rattle.printing.proofs.put_values.Goals as goal
 
 pub loop-v-init : goal.loop-v-init
 loop-v-init c =
     (omega arith, put_first (table_in c.args.table.now) c.args.list.now c.args.out.now c.args.at (omega (arith, c.requires.1)), omega arith, refl, c.requires.1, c.requires.0)
-
-pub bounds-list-v : goal.bounds-list-v
-bounds-list-v c = omega (arith, c.loop-v-test.true, c.loop-v.invariant.5)
-
-pub put_line-next-requires : goal.put_line-next-requires
-put_line-next-requires c =
-    (omega (arith, c.loop-v-test.true, c.loop-v.invariant.5), omega (arith, c.loop-v-test.true, c.loop-v.invariant.2, c.loop-v.invariant.3, c.loop-v.invariant.4))
-
-pub loop-v-smaller : goal.loop-v-smaller
-loop-v-smaller c = omega (arith, c.loop-v-test.true)
 
 pub loop-v-preserved : goal.loop-v-preserved
 loop-v-preserved c = (
@@ -31,11 +19,3 @@ loop-v-preserved c = (
   c.loop-v.invariant.4,
   c.loop-v.invariant.5,
 )
-
-pub shape_of-out : goal.shape_of-out
-shape_of-out c = c.loop-v.invariant.3
-
-pub returns : goal.returns
-returns c =
-    let z : c.loop-v.v ≡ c.args.n = omega arith in
-    subst (λ v. Put (value_lines (table_in c.args.table.now) c.args.list.now v) c.args.out.now c.args.at c.loop-v.out c.loop-v.next) z c.loop-v.invariant.1

@@ -1,5 +1,5 @@
 -- The lines of the variables behind the first two.
-use Rattle.printing.proofs.PutLaws.{put_join}
+use Rattle.lines.proofs.PutLaws.{put_join}
 use Rattle.printing.proofs.put_yes.Goals as goal
 
 pub returns : goal.returns

@@ -4,28 +4,13 @@ use mathlib.Core.Path.{refl, sym, subst}
 use native.Mathlib.Omega.{arith}
 use Rattle.model.proofs.Accepted.{Bytes}
 use Rattle.printing.specs.Lines.{Lines}
-use Rattle.printing.proofs.PromiseLaws.{run_refused, run_no_lem, run_yes_lem, case_few, no_text, yes_text, promise_short, promise_written}
+use Rattle.printing.proofs.PromiseLaws.{run_refused, run_no_lem, run_yes_lem, no_text, yes_text, promise_written}
 use Rattle.printing.proofs.write_reply.Goals as goal
-
-pub returns-then-out-lt1437 : goal.returns-then-out-lt1437
-returns-then-out-lt1437 c = promise_short c.args.file.now c.args.out.now c.if-out-lt1437.true
 
 pub put_refusal-requires : goal.put_refusal-requires
 put_refusal-requires c =
     let (e, h) = run_refused c.args.file.now _ _ refl c.run-solved.result c.run-solved.ensures _ _ c.in-Refused.is in
     (omega arith, c.if-out-lt1437.false)
-
-pub put_no-requires : goal.put_no-requires
-put_no-requires c =
-    let (f, e, none) = run_no_lem c.args.file.now _ _ refl c.run-solved.result c.run-solved.ensures c.in-No.is in
-    let few = case_few c.args.file.now c.read_case-case.result c.read_case-case.ensures f e in
-    (omega (arith, few.0), omega (arith, few.1), c.if-out-lt1437.false)
-
-pub put_yes-requires : goal.put_yes-requires
-put_yes-requires c =
-    let (f, e, l, right, k) = run_yes_lem c.args.file.now _ _ refl c.run-solved.result c.run-solved.ensures _ c.in-Yes.is in
-    let few = case_few c.args.file.now c.read_case-case.result c.read_case-case.ensures f e in
-    (few.0, omega (arith, few.1), c.if-out-lt1437.false)
 
 pub returns-in-Refused : goal.returns-in-Refused
 returns-in-Refused c =

@@ -1,18 +1,9 @@
 -- `reducing::reduce` keeps its promise: each way out cites the law of its reply.
 use native.Mathlib.Omega.{arith}
 use Rattle.model.proofs.Accepted.{Bytes}
-use Rattle.casefile.proofs.CaseFile.{case_refused, case_accepted, case_variable, case_words, case_events}
-use Rattle.reducing.proofs.PromiseLaws.{promise_refused, promise_variable}
+use Rattle.casefile.proofs.CaseFile.{case_accepted, case_words, case_events}
 use Rattle.reducing.proofs.CaseLaws.{case_solid, answer_short, answer_reduced}
 use Rattle.reducing.proofs.reduce.Goals as goal
-
-pub returns-in-Refused : goal.returns-in-Refused
-returns-in-Refused c = promise_refused c.args.file.now c.args.out.now _ _ (case_refused c.args.file.now c.read_case-case.result c.read_case-case.ensures _ _ c.in-Refused.is)
-
-pub returns-in-At : goal.returns-in-At
-returns-in-At c =
-    let w = case_accepted c.args.file.now c.read_case-case.result c.read_case-case.ensures c.in_default.is in
-    promise_variable c.args.file.now c.args.out.now w.f w.read _ (case_variable w _ c.in-At.is)
 
 pub plan_run-plan-requires : goal.plan_run-plan-requires
 plan_run-plan-requires c =

@@ -1,41 +1,34 @@
--- What stands at the front decides: a cell is late and refused 3, an event is tested further, EN ends, and what is cut or unknown is refused.
-use mathlib.Core.Path.{◌≡◌, refl, sym, ◌∙◌, ap, subst}
-use mathlib.Core.List.{List}
-use Prim.Native.Nat.{ℕ}
+-- What stands at the front decides: a cell is late, an event is tested further, EN ends, and what is cut or unknown is refused.
+use mathlib.Core.Path.{subst}
+use borrow.Author.Rules.{rules}
 use lib.ListN.{drop}
-use Rattle.casefile.specs.declared.record.Front.{Front}
-use Rattle.casefile.specs.declared.record.Front.TheVariants as front
-use Rattle.casefile.specs.declared.record.Record.{Record as Rec}
-use Rattle.casefile.specs.declared.record.Said.{Said}
-use Rattle.casefile.specs.Record.{record_says, said_as, Stands, front_says}
-use Rattle.casefile.proofs.TestLaws.{test_mark, test_unknown}
-use Rattle.casefile.proofs.EventLaws.{says_late, short_late, says_short, says_end, says_event}
+use Rattle.casefile.proofs.RecordLaws.{fronted}
+use Rattle.casefile.proofs.EventLaws.{step_says, whole_late, short_late, says_short, says_end, says_event}
 use Rattle.casefile.proofs.rest.event_step.Goals as goal
 
--- What the reader found at `at`, and what its record says.
-found : (rest : List ℕ) {r x : Front} → front_says rest r → r ≡ x → front_says rest x
-found rest f e = subst (front_says rest) e f
+pub returns-in_ok-next_event-in-Whole-Event : goal.returns-in_ok-next_event-in-Whole-Event
+returns-in_ok-next_event-in-Whole-Event c =
+    let rest = drop c.args.at c.args.rest.now in
+    let w = fronted rest c.in_ok-front_at.ensures c.in-Whole-Event.is c.in-Whole-Event.field-0-is in
+    subst (step_says rest c.args.count c.args.n) c.in_ok-next_event-in-Whole-Event.was (says_event c.args.count c.args.n c.in-Whole-Event.e w c.next_event.ensures)
 
-says : (rest : List ℕ) {r : Front} {w : Rec} {s x : Said} → front_says rest r → r ≡ front.Whole w → said_as s ≡ record_says w → s ≡ x → Stands rest (said_as x)
-says rest f e i j = subst (Stands rest) (sym i ∙ ap said_as j) (found rest f e)
+pub returns-in_err-next_event-in-Whole-Event : goal.returns-in_err-next_event-in-Whole-Event
+returns-in_err-next_event-in-Whole-Event c =
+    let rest = drop c.args.at c.args.rest.now in
+    let w = fronted rest c.in_ok-front_at.ensures c.in-Whole-Event.is c.in-Whole-Event.field-0-is in
+    let h = subst (step_says rest c.args.count c.args.n) c.in_err-next_event-in-Whole-Event.was (says_event c.args.count c.args.n c.in-Whole-Event.e w c.next_event.ensures) in
+    search rules
 
-pub returns-in-Cell : goal.returns-in-Cell
-returns-in-Cell c = says_late (drop c.args.at c.args.rest.now) c.args.count c.args.n (says (drop c.args.at c.args.rest.now) c.front_at-front.ensures c.in-Whole.is c.said_by-said.ensures c.in-Cell.is)
-
-pub returns-in-Event : goal.returns-in-Event
-returns-in-Event c = says_event c.args.count c.args.n (says (drop c.args.at c.args.rest.now) c.front_at-front.ensures c.in-Whole.is c.said_by-said.ensures refl) c.in-Event.is c.next_event.ensures
-
-pub returns-in-End : goal.returns-in-End
-returns-in-End c = says_end (drop c.args.at c.args.rest.now) c.args.count c.args.n (says (drop c.args.at c.args.rest.now) c.front_at-front.ensures c.in-Whole.is c.said_by-said.ensures c.in-End.is)
-
-pub returns-in-ShortCell : goal.returns-in-ShortCell
-returns-in-ShortCell c = short_late (drop c.args.at c.args.rest.now) c.args.count c.args.n (found (drop c.args.at c.args.rest.now) c.front_at-front.ensures c.in-ShortCell.is)
+pub returns-in-Whole-End : goal.returns-in-Whole-End
+returns-in-Whole-End c =
+    let rest = drop c.args.at c.args.rest.now in
+    says_end rest c.args.count c.args.n (fronted rest c.in_ok-front_at.ensures c.in-Whole-End.is c.in-Whole-End.field-0-is)
 
 pub returns-in-ShortEvent : goal.returns-in-ShortEvent
-returns-in-ShortEvent c = says_short (drop c.args.at c.args.rest.now) c.args.count c.args.n (found (drop c.args.at c.args.rest.now) c.front_at-front.ensures c.in-ShortEvent.is) c.short_fault.ensures
+returns-in-ShortEvent c = says_short (drop c.args.at c.args.rest.now) c.args.count c.args.n (rw c.in-ShortEvent.is at c.in_ok-front_at.ensures) c.short_fault.ensures
 
-pub returns-in-Unknown : goal.returns-in-Unknown
-returns-in-Unknown c = λ f b. test_unknown _ f (found (drop c.args.at c.args.rest.now) c.front_at-front.ensures c.in-Unknown.is)
+pub returns-in-Whole-Cell : goal.returns-in-Whole-Cell
+returns-in-Whole-Cell c = let f = c.in_ok-front_at.ensures in search (rules, whole_late)
 
-pub returns-in-Cut : goal.returns-in-Cut
-returns-in-Cut c = λ f b. test_mark _ f (found (drop c.args.at c.args.rest.now) c.front_at-front.ensures c.in-Cut.is)
+pub returns-in-Whole-Cell-2 : goal.returns-in-Whole-Cell-2
+returns-in-Whole-Cell-2 c = let f = c.in_ok-front_at.ensures in search (rules, short_late)

@@ -1,94 +1,45 @@
 -- The loop's invariant: the words are of the events of the records before `at`, `made` marks what their MKs hold, and reading on from there gives what the whole file is read as.
-use mathlib.Core.Path.{◌≡◌, refl, sym, subst}
-use mathlib.Core.List.{List}
-use Prim.Native.Nat.{ℕ, ◌+◌}
+use mathlib.Core.Path.{ap}
 use native.Mathlib.Omega.{arith}
-use lib.ListN.{drop, set, length-drop}
-use Rattle.casefile.specs.declared.Words.{Words}
-use Rattle.casefile.specs.declared.rest.EventStep.{EventStep}
-use Rattle.casefile.specs.Events.{event_says}
-use Rattle.casefile.proofs.EventLoop.{EventsSoFar, events_start, events_refused, events_end, events_loose, events_next}
+use lib.ListN.{length-drop}
+use Rattle.casefile.proofs.EventLoop.{events_start, events_refused, events_trailing, events_end, events_loose, events_next}
 use Rattle.casefile.proofs.rest.read_events.Goals as goal
 
-abbrev run : List ℕ → ℕ → Words
-run words n = record { words = words; count = n }
+pub loop-fault-init : goal.loop-fault-init
+loop-fault-init c = (
+  omega arith,
+  (let e = ap (λ w. w.count) c.new-run.ensures in omega arith),
+  λ file cells h. events_start c.args.rest.now c.args.base c.args.t.now file cells h _ c.new-run.ensures,
+)
 
--- What the step found at `at`.
-found : (rest : List ℕ) (count n : ℕ) {r s : EventStep} → event_says rest count n r → r ≡ s → event_says rest count n s
-found rest count n f e = subst (event_says rest count n) e f
+pub returns-in-Err : goal.returns-in-Err
+returns-in-Err c =
+    λ file cells h. events_refused c.args.rest.now c.args.base c.args.t.now file cells h c.requires.count_bound c.loop-fault.at c.loop-fault.run c.loop-fault.made (c.loop-fault.invariant.2 file cells h) _ c.in-Err.ensures
 
-pub loop-number-init : goal.loop-number-init
-loop-number-init c = (omega arith, omega arith, λ file cells h. events_start c.args.rest.now c.args.base c.args.t file cells h _ refl)
+pub returns-then-rest-at-gt2 : goal.returns-then-rest-at-gt2
+returns-then-rest-at-gt2 c =
+    λ file cells h. events_trailing c.args.rest.now c.args.base c.args.t.now file cells h c.requires.count_bound c.loop-fault.at c.loop-fault.run c.loop-fault.made (c.loop-fault.invariant.2 file cells h)
+    (rw c.in-Ok-None.field-0-is at c.in-Ok-None.ensures) c.if-rest-at-gt2.true
 
-pub overflow_add-result : goal.overflow_add-result
-overflow_add-result c = omega (arith, c.requires, c.loop-number.invariant.0)
-
-pub returns-in-Refused : goal.returns-in-Refused
-returns-in-Refused c =
-    λ file cells h. events_refused c.args.rest.now c.args.base c.args.t file cells h c.requires.count_bound c.loop-number.at (run c.loop-number.words c.loop-number.n) c.loop-number.made (c.loop-number.invariant.2 file cells h) _
-    (found (drop c.loop-number.at c.args.rest.now) c.args.t.count c.loop-number.n c.event_step-step.ensures c.in-Refused.is)
-
-pub ended-requires : goal.ended-requires
-ended-requires c =
-    let h = (found (drop c.loop-number.at c.args.rest.now) c.args.t.count c.loop-number.n c.event_step-step.ensures c.in-End.is).whole in
-    record { at_in_bounds = omega (arith, length-drop c.loop-number.at c.args.rest.now); rest_bound = c.requires.rest_bound }
-
-pub returns-in-End : goal.returns-in-End
-returns-in-End c =
-    λ file cells h. events_end c.args.rest.now c.args.base c.args.t file cells h c.requires.count_bound c.loop-number.at (run c.loop-number.words c.loop-number.n) c.loop-number.made (c.loop-number.invariant.2 file cells h)
-    (found (drop c.loop-number.at c.args.rest.now) c.args.t.count c.loop-number.n c.event_step-step.ensures c.in-End.is) c.ended.result c.ended.ensures
-
-pub shows_loose-requires : goal.shows_loose-requires
-shows_loose-requires c =
-    let h = (found (drop c.loop-number.at c.args.rest.now) c.args.t.count c.loop-number.n c.event_step-step.ensures c.in-Next.is).below in
-    record { lower = c.requires.lower; aim_fits = omega (arith, c.requires.count_bound) }
-
-pub overflow_add-result-then-shows_loose : goal.overflow_add-result-then-shows_loose
-overflow_add-result-then-shows_loose c = omega (arith, c.requires, c.loop-number.invariant.0)
+pub returns-in-Ok-None : goal.returns-in-Ok-None
+returns-in-Ok-None c =
+    λ file cells h. events_end c.args.rest.now c.args.base c.args.t.now file cells h c.requires.count_bound c.loop-fault.at c.loop-fault.run c.loop-fault.made (c.loop-fault.invariant.2 file cells h)
+    (rw c.in-Ok-None.field-0-is at c.in-Ok-None.ensures) c.if-rest-at-gt2.false
 
 pub returns-then-shows_loose : goal.returns-then-shows_loose
 returns-then-shows_loose c =
-    λ file cells h. events_loose c.args.rest.now c.args.base c.args.t file cells h c.requires.count_bound c.loop-number.at (run c.loop-number.words c.loop-number.n) c.loop-number.made (c.loop-number.invariant.2 file cells h)
-    c.requires.lower _ (found (drop c.loop-number.at c.args.rest.now) c.args.t.count c.loop-number.n c.event_step-step.ensures c.in-Next.is) (c.shows_loose.ensures.yes c.if-shows_loose.true)
+    λ file cells h. events_loose c.args.rest.now c.args.base c.args.t.now file cells h c.requires.count_bound c.loop-fault.at c.loop-fault.run c.loop-fault.made (c.loop-fault.invariant.2 file cells h)
+    c.requires.lower _ (rw c.in-Ok-Some.field-0-is at c.in-Ok-Some.ensures) (c.shows_loose.ensures.yes c.if-shows_loose.true)
 
-pub made_after-more-requires : goal.made_after-more-requires
-made_after-more-requires c =
-    let h = (found (drop c.loop-number.at c.args.rest.now) c.args.t.count c.loop-number.n c.event_step-step.ensures c.in-Next.is).below in
-    record { lower = c.requires.lower; aim_fits = omega (arith, c.requires.count_bound) }
-
-pub offset_bounds-words-n : goal.offset_bounds-words-n
-offset_bounds-words-n c =
-    let h = (found (drop c.loop-number.at c.args.rest.now) c.args.t.count c.loop-number.n c.event_step-step.ensures c.in-Next.is).room in
-    omega arith
-
-pub bounds-words-n : goal.bounds-words-n
-bounds-words-n c =
-    let h = (found (drop c.loop-number.at c.args.rest.now) c.args.t.count c.loop-number.n c.event_step-step.ensures c.in-Next.is).room in
-    omega arith
-
-pub overflow_add-n : goal.overflow_add-n
-overflow_add-n c =
-    let h = (found (drop c.loop-number.at c.args.rest.now) c.args.t.count c.loop-number.n c.event_step-step.ensures c.in-Next.is).room in
-    omega arith
-
-pub overflow_add-at : goal.overflow_add-at
-overflow_add-at c =
-    let h = (found (drop c.loop-number.at c.args.rest.now) c.args.t.count c.loop-number.n c.event_step-step.ensures c.in-Next.is).whole in
-    omega (arith, length-drop c.loop-number.at c.args.rest.now, c.requires.rest_bound)
-
-pub loop-number-smaller : goal.loop-number-smaller
-loop-number-smaller c =
-    let h = (found (drop c.loop-number.at c.args.rest.now) c.args.t.count c.loop-number.n c.event_step-step.ensures c.in-Next.is).room in
-    omega arith
-
-pub loop-number-preserved : goal.loop-number-preserved
-loop-number-preserved c =
-    let x = found (drop c.loop-number.at c.args.rest.now) c.args.t.count c.loop-number.n c.event_step-step.ensures c.in-Next.is in
-    let r = x.room in
-    let y = x.whole in (
-      omega (arith, length-drop c.loop-number.at c.args.rest.now, c.loop-number.invariant.0),
+pub loop-fault-preserved : goal.loop-fault-preserved
+loop-fault-preserved c =
+    let f = rw c.in-Ok-Some.field-0-is at c.in-Ok-Some.ensures in
+    let w = f.whole in
+    let r = f.room in
+    let e = ap (λ w. w.count) c.push.ensures in (
+      omega (arith, length-drop c.loop-fault.at c.args.rest.now),
       omega arith,
-      λ file cells h. subst (λ w. EventsSoFar c.args.base file cells (c.loop-number.at + 3) (run (set c.loop-number.words c.loop-number.n w) (c.loop-number.n + 1)) c.made_after-more.result) (sym c.event_word.ensures)
-          (events_next c.args.rest.now c.args.base c.args.t file cells h c.requires.count_bound c.loop-number.at (run c.loop-number.words c.loop-number.n) c.loop-number.made (c.loop-number.invariant.2 file cells h) c.requires.lower _ x
-          (c.shows_loose.ensures.no c.if-shows_loose.false) c.made_after-more.result c.made_after-more.ensures),
+      λ file cells h. rw (c.push.ensures, c.event_word.ensures)
+          (events_next c.args.rest.now c.args.base c.args.t.now file cells h c.requires.count_bound c.loop-fault.at c.loop-fault.run c.loop-fault.made (c.loop-fault.invariant.2 file cells h)
+          c.requires.lower _ f (c.shows_loose.ensures.no c.if-shows_loose.false) c.mark_made.new.made c.mark_made.ensures),
     )

@@ -7,9 +7,9 @@ use Rattle.casefile.specs.Events.{Context}
 use Rattle.casefile.proofs.EventLoop.{EventsSoFar}
 use Rattle.casefile.proofs.rest.read_events.Given as goal
 
-abbrev pub invariant-loop-number : goal.invariant-loop-number
-invariant-loop-number l =
-    (l.at ≤ length l.rest) × (l.n ≤ 128) × ((file : List ℕ) (cells : List Cell) → Context l.rest l.base l.t file cells → EventsSoFar l.base file cells l.at (record { words = l.words; count = l.n }) l.made)
+abbrev pub invariant-loop-fault : goal.invariant-loop-fault
+invariant-loop-fault l =
+    (l.at ≤ length l.rest) × (l.run.count ≤ 128) × ((file : List ℕ) (cells : List Cell) → Context l.rest l.base l.t file cells → EventsSoFar l.base file cells l.at l.run l.made)
 
-abbrev pub decreases-loop-number : goal.decreases-loop-number
-decreases-loop-number l = 128 - l.n
+abbrev pub decreases-loop-fault : goal.decreases-loop-fault
+decreases-loop-fault l = 128 - l.run.count

@@ -1,64 +1,17 @@
 -- The loop's invariant: the words are of the cells of the records before `at`, and reading on from there gives what the whole file is read as.
-use mathlib.Core.Path.{◌≡◌, refl, subst, subst₂, sym}
-use Prim.Native.Nat.{ℕ, ◌+◌}
-use mathlib.Core.List.{List}
-use native.Mathlib.Omega.{arith}
-use lib.ListN.{drop, set}
-use Rattle.casefile.specs.declared.Words.{Words}
-use Rattle.casefile.specs.declared.table.CellStep.{CellStep}
-use Rattle.casefile.specs.Cells.{cell_says}
-use Rattle.casefile.proofs.CellLoop.{CellsSoFar, cells_start, cells_events, cells_refused, cells_next, step_fits}
+use Rattle.casefile.proofs.CellLoop.{cells_start, cells_events, cells_refused, cells_next}
 use Rattle.casefile.proofs.table.read_cells.Goals as goal
 
-abbrev table : List ℕ → ℕ → Words
-table words n = record { words = words; count = n }
+pub loop-fault-init : goal.loop-fault-init
+loop-fault-init c = cells_start c.args.file.now _ c.new-table.ensures
 
--- What the step found at `at`.
-found : (rest : List ℕ) (n : ℕ) {r s : CellStep} → cell_says rest n r → r ≡ s → cell_says rest n s
-found rest n f e = subst (cell_says rest n) e f
+pub returns-in-Err : goal.returns-in-Err
+returns-in-Err c = cells_refused c.args.file.now c.loop-fault.at c.loop-fault.table c.loop-fault.invariant _ c.in-Err.ensures
 
-pub loop-words-init : goal.loop-words-init
-loop-words-init c = cells_start c.args.file.now _ refl
+pub returns-in-Ok-None : goal.returns-in-Ok-None
+returns-in-Ok-None c = cells_events c.args.file.now c.loop-fault.at c.loop-fault.table c.loop-fault.invariant (rw c.in-Ok-None.field-0-is at c.in-Ok-None.ensures)
 
-pub returns-in-Events : goal.returns-in-Events
-returns-in-Events c = cells_events c.args.file.now c.loop-words.at (table c.loop-words.words c.loop-words.n) c.loop-words.invariant (found (drop c.loop-words.at c.args.file.now) c.loop-words.n c.cell_step-step.ensures c.in-Events.is)
-
-pub returns-in-Refused : goal.returns-in-Refused
-returns-in-Refused c =
-    (cells_refused c.args.file.now c.loop-words.at (table c.loop-words.words c.loop-words.n) c.loop-words.invariant _ (found (drop c.loop-words.at c.args.file.now) c.loop-words.n c.cell_step-step.ensures c.in-Refused.is), c.no_words.ensures)
-
-pub offset_bounds-words-n : goal.offset_bounds-words-n
-offset_bounds-words-n c =
-    let x = found (drop c.loop-words.at c.args.file.now) c.loop-words.n c.cell_step-step.ensures c.in-Next.is in
-    let r = x.room in
-    omega arith
-
-pub bounds-words-n : goal.bounds-words-n
-bounds-words-n c =
-    let x = found (drop c.loop-words.at c.args.file.now) c.loop-words.n c.cell_step-step.ensures c.in-Next.is in
-    let r = x.room in
-    omega arith
-
-pub overflow_add-n : goal.overflow_add-n
-overflow_add-n c =
-    let x = found (drop c.loop-words.at c.args.file.now) c.loop-words.n c.cell_step-step.ensures c.in-Next.is in
-    let r = x.room in
-    omega arith
-
-pub overflow_add-at : goal.overflow_add-at
-overflow_add-at c =
-    let x = found (drop c.loop-words.at c.args.file.now) c.loop-words.n c.cell_step-step.ensures c.in-Next.is in
-    let f = step_fits c.args.file.now c.loop-words.at (table c.loop-words.words c.loop-words.n) c.loop-words.invariant _ x in
-    omega arith
-
-pub loop-words-smaller : goal.loop-words-smaller
-loop-words-smaller c =
-    let x = found (drop c.loop-words.at c.args.file.now) c.loop-words.n c.cell_step-step.ensures c.in-Next.is in
-    let r = x.room in
-    omega arith
-
-pub loop-words-preserved : goal.loop-words-preserved
-loop-words-preserved c =
-    let x = found (drop c.loop-words.at c.args.file.now) c.loop-words.n c.cell_step-step.ensures c.in-Next.is in
-    subst₂ (λ m w. CellsSoFar c.args.file.now (c.loop-words.at + m) (table (set c.loop-words.words c.loop-words.n w) (c.loop-words.n + 1))) (sym c.size_of-at.ensures) (sym c.word_of.ensures)
-    (cells_next c.args.file.now c.loop-words.at (table c.loop-words.words c.loop-words.n) c.loop-words.invariant _ x)
+pub loop-fault-preserved : goal.loop-fault-preserved
+loop-fault-preserved c =
+    let x = rw c.in-Ok-Some.field-0-is at c.in-Ok-Some.ensures in
+    rw (c.push.ensures, c.word_of.ensures, c.size_of-at.ensures) (cells_next c.args.file.now c.loop-fault.at c.loop-fault.table c.loop-fault.invariant _ x)

@@ -3,8 +3,8 @@ use Prim.Native.Nat.{◌-◌}
 use Rattle.casefile.proofs.CellLoop.{CellsSoFar}
 use Rattle.casefile.proofs.table.read_cells.Given as goal
 
-abbrev pub invariant-loop-words : goal.invariant-loop-words
-invariant-loop-words l = CellsSoFar l.file l.at (record { words = l.words; count = l.n })
+abbrev pub invariant-loop-fault : goal.invariant-loop-fault
+invariant-loop-fault l = CellsSoFar l.file l.at l.table
 
-abbrev pub decreases-loop-words : goal.decreases-loop-words
-decreases-loop-words l = 128 - l.n
+abbrev pub decreases-loop-fault : goal.decreases-loop-fault
+decreases-loop-fault l = 128 - l.table.count

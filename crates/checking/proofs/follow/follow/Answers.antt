@@ -4,26 +4,20 @@ use mathlib.Core.Path.{◌≡◌, sym, ◌∙◌}
 use mathlib.Core.Bool.{true, false, true≢false}
 use Rattle.checking.proofs.follow.follow.Goals as goal
 
-pub settle-s-requires : goal.settle-s-requires
-settle-s-requires c = record { table_words = c.requires.table_words; kept = c.gather-gathered.ensures.kept }
-
-pub returns-then-not-s : goal.returns-then-not-s
-returns-then-not-s c =
-    let bad : c.settle-s.result.ok ≡ false = not-true _ c.if-not-s.true in
+pub returns-then-not-settled : goal.returns-then-not-settled
+returns-then-not-settled c =
+    let bad : c.settle-settled.result.ok ≡ false = not-true _ c.if-not-settled.true in
     record {
-      no = λ _ m mr l. c.settle-s.ensures.no bad m mr ((c.gather-gathered.ensures.sat m mr).0 l);
+      no = λ _ m mr l. c.settle-settled.ensures.no bad m mr ((c.gather.ensures.sat m mr).0 l);
       solved = λ e. absurd (true≢false (sym e ∙ bad));
       sat = λ e. absurd (true≢false (sym e ∙ bad));
     }
 
-pub acyclic-ok-requires : goal.acyclic-ok-requires
-acyclic-ok-requires c = record { table_words = c.requires.table_words; kept = c.settle-s.ensures.kept (not-false _ c.if-not-s.false) }
-
 pub returns : goal.returns
 returns c =
-    let good : c.settle-s.result.ok ≡ true = not-false _ c.if-not-s.false in
+    let good : c.settle-settled.result.ok ≡ true = not-false _ c.if-not-settled.false in
     record {
-      no = λ o m mr l. (c.acyclic-ok.ensures.no o).0 m mr ((c.settle-s.ensures.sat good m mr).0 ((c.gather-gathered.ensures.sat m mr).0 l));
-      solved = λ o. record { kept = c.settle-s.ensures.kept good; closed = c.settle-s.ensures.closed good; finite = c.acyclic-ok.ensures.yes o };
-      sat = λ _ m mr. (λ l. (c.settle-s.ensures.sat good m mr).0 ((c.gather-gathered.ensures.sat m mr).0 l), λ s. (c.gather-gathered.ensures.sat m mr).1 ((c.settle-s.ensures.sat good m mr).1 s));
+      no = λ o m mr l. (c.acyclic-ok.ensures.no o).0 m mr ((c.settle-settled.ensures.sat good m mr).0 ((c.gather.ensures.sat m mr).0 l));
+      solved = λ o. record { kept = c.settle-settled.ensures.kept good; closed = c.settle-settled.ensures.closed good; finite = c.acyclic-ok.ensures.yes o };
+      sat = λ _ m mr. (λ l. (c.settle-settled.ensures.sat good m mr).0 ((c.gather.ensures.sat m mr).0 l), λ s. (c.gather.ensures.sat m mr).1 ((c.settle-settled.ensures.sat good m mr).1 s));
     }

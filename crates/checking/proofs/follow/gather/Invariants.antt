@@ -1,11 +1,7 @@
 -- The loop's invariant: exactly those messages satisfy the classes that follow the list below c.
-use Prim.Native.Nat.{◌≤◌, ◌-◌}
 use Rattle.model.specs.Stored.{table_in}
 use Rattle.checking.proofs.FollowLaws.{Gathering}
 use Rattle.checking.proofs.follow.gather.Given as goal
 
 abbrev pub invariant-loop-c : goal.invariant-loop-c
-invariant-loop-c l = Gathering l.n (table_in l.table) l.list l.rep l.c × (l.c ≤ l.n)
-
-abbrev pub decreases-loop-c : goal.decreases-loop-c
-decreases-loop-c l = l.n - l.c
+invariant-loop-c l = Gathering l.n (table_in l.table) l.list l.rep l.c

@@ -1,12 +1,7 @@
 -- The loop's invariant: his own name is put for the entries 255 below c.
-use Prim.Native.Nat.{◌≤◌, ◌-◌}
-use lib.ListN.{length}
 use Rattle.model.specs.Stored.{table_in}
 use Rattle.checking.proofs.FormLaws.{Owning}
 use Rattle.checking.proofs.form.put_own.Given as goal
 
 abbrev pub invariant-loop-c : goal.invariant-loop-c
-invariant-loop-c l = Owning (table_in l.table) l.list (table_in l.out) l.c × (l.c ≤ length l.list)
-
-abbrev pub decreases-loop-c : goal.decreases-loop-c
-decreases-loop-c l = length l.list - l.c
+invariant-loop-c l = Owning (table_in l.table) l.list (table_in l.out) l.c

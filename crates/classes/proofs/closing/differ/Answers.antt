@@ -6,15 +6,16 @@ use Rattle.theory.specs.Classes.{Alike}
 use Rattle.classes.proofs.TwinLaws.{alike_self}
 use Rattle.classes.proofs.SettleLaws.{told_asks}
 use Rattle.classes.proofs.closing.differ.Goals as goal
+use Rattle.classes.proofs.closing.differ.Goals.{then-r-c-via-then-r-c, then-r-c-via-else-r-c+then-is_variable}
 
 pub returns-then-r-c : goal.returns-then-r-c
 returns-then-r-c c =
     let T = table_in c.args.table.now in
     let cls = class_at c.args.rep.now in
-    λ s. subst (λ d. Alike cls (T c.args.c) (T d)) (sym c.if-r-c.true ∙ c.class_of-r.ensures) (alike_self (T c.args.c) s)
-
-pub returns-then-is_variable : goal.returns-then-is_variable
-returns-then-is_variable c = λ s. absurd (s (c.is_variable.ensures.yes c.if-is_variable.true))
+    λ s. elim c.then-r-c.branch [
+      | then-r-c-via-then-r-c w ↦ subst (λ d. Alike cls (T c.args.c) (T d)) (sym w.if-r-c.true ∙ c.class_of-r.ensures) (alike_self (T c.args.c) s)
+      | then-r-c-via-else-r-c+then-is_variable w ↦ absurd (s (w.is_variable.ensures.yes w.if-is_variable.true))
+    ]
 
 pub returns : goal.returns
 returns c =

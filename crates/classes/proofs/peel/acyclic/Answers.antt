@@ -1,31 +1,17 @@
 -- Each sweep that changes something marks a cell more; when none does, ranks of all cells, or a cell that is not marked, give the answer.
-use borrow.Author.Tests.{not-true, not-false}
-use mathlib.Core.Path.{◌≡◌}
-use mathlib.Core.Bool.{false}
 use Rattle.classes.proofs.PeelLaws.{peeled_none, peeled_finite, peeled_round, peeled_endless}
 use Rattle.classes.proofs.peel.acyclic.Goals as goal
 
 pub loop-rep-init : goal.loop-rep-init
 loop-rep-init c = peeled_none _
 
-pub peel-p-requires : goal.peel-p-requires
-peel-p-requires c = record { table_words = c.requires.table_words; peeled = c.loop-rep.invariant }
-
-pub all_done-requires : goal.all_done-requires
-all_done-requires c = c.requires.table_words.few
-
-pub returns-then-not-p : goal.returns-then-not-p
-returns-then-not-p c =
-    let quiet : c.peel-p.result.changed ≡ false = not-true _ c.if-not-p.true in record {
-      yes = λ e. peeled_finite c.requires.table_words c.requires.kept c.peel-p.result.done c.peel-p.ensures.peeled (c.all_done.ensures.yes e);
+pub returns : goal.returns
+returns c =
+    let quiet = c.loop-rep-test.false in
+    record {
+      yes = λ e. peeled_finite c.requires.table_words c.requires.kept _ c.peel.ensures.peeled (c.all_done.ensures.yes e);
       no = λ e. (let (x, h, ne) = c.all_done.ensures.no e in (
-        peeled_round c.requires.table_words c.requires.kept c.peel-p.result.done (c.peel-p.ensures.shut quiet) x h ne,
-        peeled_endless c.requires.table_words c.requires.kept c.peel-p.result.done (c.peel-p.ensures.shut quiet) x h ne,
+        peeled_round c.requires.table_words c.requires.kept _ (c.peel.ensures.shut quiet) x h ne,
+        peeled_endless c.requires.table_words c.requires.kept _ (c.peel.ensures.shut quiet) x h ne,
       ));
     }
-
-pub loop-rep-smaller : goal.loop-rep-smaller
-loop-rep-smaller c = c.peel-p.ensures.fewer (not-false _ c.if-not-p.false)
-
-pub loop-rep-preserved : goal.loop-rep-preserved
-loop-rep-preserved c = c.peel-p.ensures.peeled

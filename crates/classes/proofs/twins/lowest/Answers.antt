@@ -22,8 +22,8 @@ returns-then-n-i c =
 
 pub returns : goal.returns
 returns c =
-    let T = table_in c.args.table.now in let cls = class_at c.args.rep.now in let w = worded_more c.args.n T cls c.args.c c.class_word.result c.args.words.now c.requires.c_bound (c.class_word.ensures ∙ ap (class_word cls c.args.c) c.cell_at.ensures) c.requires.worded_2 in record {
+    let T = table_in c.args.table.now in let cls = class_at c.args.rep.now in let w = worded_more c.args.n T cls c.args.c c.class_word.result c.args.words.now c.requires.c_bound (c.class_word.ensures ∙ ap (class_word cls c.args.c) (rw c.from-i.ensures at c.cell_at.ensures)) c.requires.worded_2 in record {
       twin = earliest_twin c.args.table.now c.requires.table_words.lower cls (set c.args.words.now c.args.c c.class_word.result) c.args.c c.first_same.result c.requires.c_bound c.requires.by_index
-          (λ d h. w.at d (omega arith) (omega (arith, c.if-n-i.false))) c.first_same.ensures;
-      worded = w;
+          (λ d h. w.at d (omega arith) (omega (arith, c.if-n-i.false))) (rw c.from-i.ensures at c.first_same.ensures);
+      worded = rw c.from-i.ensures w;
     }

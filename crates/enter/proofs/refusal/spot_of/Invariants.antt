@@ -6,6 +6,3 @@ use Rattle.enter.proofs.refusal.spot_of.Given as goal
 
 abbrev pub invariant-loop-i : goal.invariant-loop-i
 invariant-loop-i l = Reached l.text l.place l.i l.spot
-
-abbrev pub decreases-loop-i : goal.decreases-loop-i
-decreases-loop-i l = length l.text - l.i

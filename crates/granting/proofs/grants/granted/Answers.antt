@@ -1,5 +1,4 @@
 -- If calm, what was granted holds; else it is closed anew.
-use Rattle.knowledge.proofs.ClassRows.{kept_row}
 use Rattle.granting.proofs.GrantLaws.{more_none, calm_still}
 use Rattle.granting.proofs.grants.granted.Goals as goal
 
@@ -7,22 +6,15 @@ pub returns-then-g : goal.returns-then-g
 returns-then-g c =
     record { rows = c.requires.grant_rows; marks = record { more = more_none c.requires.grant_rows.seen_marked c.requires.grant_rows.built_marked; still = c.requires.grant_rows.still c.if-g.true c.args.p }; bare = c.requires.grant_rows.bares c.if-g.true }
 
-pub closed-m-requires : goal.closed-m-requires
-closed-m-requires c =
-    record { table_words = c.requires.table_words; kept = c.requires.kept; run_words = c.requires.run_words; mark_row = c.requires.grant_rows.seen_marked; mark_row_2 = c.requires.grant_rows.built_marked }
-
-pub bares-requires : goal.bares-requires
-bares-requires c = record { table_words = c.requires.table_words; class_row = kept_row c.requires.table_words c.requires.kept }
-
 pub returns : goal.returns
 returns c =
     record {
       rows = record {
-        seen_marked = c.closed-m.ensures.more.seen_marked;
-        built_marked = c.closed-m.ensures.more.built_marked;
-        still = λ e. calm_still c.requires.table_words (c.is_calm.ensures e) c.closed-m.ensures.still;
+        seen_marked = c.closed.ensures.more.seen_marked;
+        built_marked = c.closed.ensures.more.built_marked;
+        still = λ e. calm_still c.requires.table_words (c.is_calm.ensures e) c.closed.ensures.still;
         bares = λ _. c.bares.ensures;
       };
-      marks = c.closed-m.ensures;
+      marks = c.closed.ensures;
       bare = c.bares.ensures;
     }

@@ -1,34 +1,15 @@
 -- The first rule that adds marks; where none does, none is left to add.
 use borrow.Author.Rules.{rules}
-use Rattle.model.specs.Stored.{table_in}
-use Rattle.knowledge.proofs.ClassRows.{kept_row}
 use Rattle.knowledge.proofs.Grow.{none_marked}
-use Rattle.granting.proofs.GrantLaws.{rounded_turn, rounded_grant, rounded_leak}
+use Rattle.granting.proofs.GrantLaws.{rounded_grant, rounded_leak}
 use Rattle.granting.proofs.grants.round.Goals as goal
 
-pub sweep-t-requires : goal.sweep-t-requires
-sweep-t-requires c =
-    record { table_words = c.requires.table_words; class_row = kept_row c.requires.table_words c.requires.kept; mark_row = c.requires.mark_row; mark_row_2 = c.requires.mark_row_2 }
+pub needed-keys-requires-clause-mark_row_2 : goal.needed-keys-requires-clause-mark_row_2
+needed-keys-requires-clause-mark_row_2 c = none_marked
 
-pub returns-then-t : goal.returns-then-t
-returns-then-t c = rounded_turn c.sweep-t.ensures c.if-t.true
+pub returns-then-grant : goal.returns-then-grant
+returns-then-grant c = rounded_grant c.sweep-changed.ensures (search rules) (search rules) (search rules) (search rules) c.grant.ensures c.if-grant.true
 
-pub needed-keys-requires : goal.needed-keys-requires
-needed-keys-requires c =
-    record { table_words = c.requires.table_words; class_row = kept_row c.requires.table_words c.requires.kept; mark_row = c.sweep-t.ensures.built_marked; mark_row_2 = none_marked }
-
-pub grant-g-requires : goal.grant-g-requires
-grant-g-requires c =
-    record { table_words = c.requires.table_words; kept = c.requires.kept; mark_row = c.needed-keys.ensures.wider.marked; mark_row_2 = c.sweep-t.ensures.built_marked }
-
-pub returns-then-g : goal.returns-then-g
-returns-then-g c =
-    rw (c.turn.ensures.0, c.turn.ensures.1.0, c.turn.ensures.1.1) (rounded_grant {T = table_in c.args.table.now} c.sweep-t.ensures (search rules) (search rules) (search rules) (search rules) c.grant-g.ensures c.if-g.true)
-
-pub leaked-l-requires : goal.leaked-l-requires
-leaked-l-requires c = record { table_words = c.requires.table_words; kept = c.requires.kept; run_words = c.requires.run_words; mark_row = c.sweep-t.ensures.seen_marked }
-
-pub returns : goal.returns
-returns c =
-    rw (c.turn-2.ensures.0, c.turn-2.ensures.1.0, c.turn-2.ensures.1.1) (rounded_leak {T = table_in c.args.table.now} c.sweep-t.ensures (search rules) (search rules) (search rules) (search rules) c.grant-g.ensures c.if-t.false
-    c.if-g.false c.needed-keys.ensures.row c.leaked-l.ensures)
+pub returns-else-grant : goal.returns-else-grant
+returns-else-grant c =
+    rounded_leak c.sweep-changed.ensures (search rules) (search rules) (search rules) (search rules) c.grant.ensures c.if-changed.false c.if-grant.false c.needed-keys.ensures.row c.leaked.ensures

@@ -11,15 +11,6 @@ use Rattle.granting.proofs.line.way.Goals as goal
 pub loop-m-init : goal.loop-m-init
 loop-m-init c = (walk_none (search rules) none_on c.args.goal, c.requires.lacking, none_on c.args.goal, inr refl)
 
-pub bounds-m-c : goal.bounds-m-c
-bounds-m-c c = omega (arith, c.loop-m.invariant.1.inside, c.requires.table_words.few)
-
-pub next-x-requires : goal.next-x-requires
-next-x-requires c = record { table_words = c.requires.table_words; kept = c.requires.kept; whole = c.requires.whole; lacking = c.loop-m.invariant.1 }
-
-pub bounds-m-x : goal.bounds-m-x
-bounds-m-x c = omega (arith, c.next-x.ensures.lacking.inside, c.requires.table_words.few)
-
 pub returns-then-m-x-eq1 : goal.returns-then-m-x-eq1
 returns-then-m-x-eq1 c =
     let h : c.loop-m.c ≤ 128 = omega (arith, c.loop-m.invariant.1.inside, c.requires.table_words.few) in

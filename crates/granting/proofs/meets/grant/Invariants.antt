@@ -1,11 +1,7 @@
 -- The invariant: unless something changed, no cell below c is left to mark.
-use Prim.Native.Nat.{◌≤◌, ◌-◌}
 use Rattle.model.specs.Stored.{table_in}
 use Rattle.granting.specs.Meets.{Granting}
 use Rattle.granting.proofs.meets.grant.Given as goal
 
 abbrev pub invariant-loop-c : goal.invariant-loop-c
-invariant-loop-c l = Granting (table_in l.table) l.n l.rep l.keys l.seen l.initial.m l.m l.changed l.c × (l.c ≤ l.n)
-
-abbrev pub decreases-loop-c : goal.decreases-loop-c
-decreases-loop-c l = l.n - l.c
+invariant-loop-c l = Granting (table_in l.table) l.n l.rep l.keys l.seen l.fn.built l.built l.changed l.c

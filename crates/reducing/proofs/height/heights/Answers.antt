@@ -8,28 +8,14 @@ use Rattle.reducing.proofs.HeightLaws.{Climbed, climbed_start, climbed_next, cli
 use Rattle.reducing.proofs.height.heights.Goals as goal
 
 pub loop-c-init : goal.loop-c-init
-loop-c-init c = (omega arith, climbed_start (table_in c.args.table.now))
-
-pub height_of-requires : goal.height_of-requires
-height_of-requires c = λ d. (omega (arith, c.requires.few, c.loop-c.invariant.1.low d))
-
-pub bounds-high-c : goal.bounds-high-c
-bounds-high-c c = (omega (arith, c.requires.few, c.loop-c.invariant.1.size))
-
-pub overflow_add-c : goal.overflow_add-c
-overflow_add-c c = omega (arith, c.requires.few)
-
-pub loop-c-smaller : goal.loop-c-smaller
-loop-c-smaller c = omega arith
+loop-c-init c = climbed_start (table_in c.args.table.now)
 
 pub loop-c-preserved : goal.loop-c-preserved
-loop-c-preserved c = (
-  omega arith,
-  climbed_next c.args.n c.args.table.now c.requires c.loop-c.c c.loop-c.high c.loop-c.invariant.1 (omega (arith, c.requires.few)) c.height_of.result
-      (c.height_of.ensures ∙ ap (height_at (λ d. get_or c.loop-c.high d 0)) c.cell_at.ensures),
-)
+loop-c-preserved c =
+    climbed_next c.args.n c.args.table.now c.requires c.loop-c.c c.loop-c.high c.loop-c.invariant (omega (arith, c.requires.few)) c.height_of.result
+    (c.height_of.ensures ∙ ap (height_at (λ d. get_or c.loop-c.high d 0)) c.cell_at.ensures)
 
 pub returns : goal.returns
 returns c =
     let z : c.loop-c.c ≡ c.args.n = omega arith in
-    climbed_end c.args.n c.args.table.now c.requires c.loop-c.high (subst (λ i. Climbed (table_in c.args.table.now) i c.loop-c.high) z c.loop-c.invariant.1)
+    climbed_end c.args.n c.args.table.now c.requires c.loop-c.high (subst (λ i. Climbed (table_in c.args.table.now) i c.loop-c.high) z c.loop-c.invariant)

@@ -1,19 +1,19 @@
 -- The three tests are the three parts of `IsBare`.
-use mathlib.Core.Path.{◌≡◌, sym, ◌∙◌, subst}
+use mathlib.Core.Path.{◌≡◌, sym, ◌∙◌}
+use mathlib.Core.Bool.{true}
 use native.Mathlib.Omega.{arith}
-use Rattle.theory.specs.Cells.{On}
-use Rattle.theory.proofs.Decides.{decides_no, decides_not, decides_iff}
+use lib.Dec.{eqb}
+use lib.ListN.{get_or}
+use borrow.Author.Tests.{eqb-true}
+use Rattle.theory.proofs.Decides.{decides_not, decides_iff}
 use Rattle.reducing.proofs.kept.is_bare.Goals as goal
+use Rattle.reducing.proofs.kept.is_bare.Goals.{then-class_of-c, else-class_of-c}
 
-pub returns-then-z-c : goal.returns-then-z-c
-returns-then-z-c c = decides_no (λ (e, b, i). let own = c.class_of-z.ensures ∙ e in omega (arith, c.if-z-c.true))
-
-pub returns-then-built-z-ne1 : goal.returns-then-built-z-ne1
-returns-then-built-z-ne1 c =
-    decides_no (λ (e, b, i).
-    c.if-built-z-ne1.true (subst (On c.args.built.now) (sym (c.class_of-z.ensures ∙ e)) b))
-
-pub returns : goal.returns
-returns c =
-    let own : c.class_of-z.result ≡ c.args.c = omega (arith, c.if-z-c.false) in
-    decides_iff (decides_not c.is_idle.ensures) (λ h. (sym c.class_of-z.ensures ∙ own, subst (On c.args.built.now) own c.if-built-z-ne1.false, h)) (λ (e, b, h). h)
+pub returns-then-built-c-eq1 : goal.returns-then-built-c-eq1
+returns-then-built-c-eq1 c =
+    elim c.if-class_of-c.branch [
+      | then-class_of-c w ↦ (
+          let e : eqb (get_or c.args.built.now c.args.c 0) 1 ≡ true = sym w.value-is ∙ c.if-built-c-eq1.true in
+          decides_iff (decides_not c.is_idle.ensures) (λ h. (omega arith, eqb-true _ _ e, h)) (λ (e, b, h). h))
+      | else-class_of-c w ↦ absurd (w.if-class_of-c.false (eqb-true _ _ (sym w.value-is ∙ c.if-built-c-eq1.true)))
+    ]

@@ -3,27 +3,23 @@ use native.Mathlib.Omega.{arith}
 use Rattle.theory.proofs.Decides.{decides_no}
 use Rattle.reducing.specs.Bare.{BuiltClass}
 use Rattle.reducing.proofs.PartLaws.{low_made_one, low_made_two}
-use Rattle.reducing.proofs.IdleLaws.{idle_none, idle_one, idle_right, idle_two}
+use Rattle.reducing.proofs.IdleLaws.{idle_one, idle_right, idle_two}
 use Rattle.reducing.proofs.kept.is_idle.Goals as goal
 
-pub has-requires : goal.has-requires
-has-requires c = record { class_row = c.requires.0; x_bound = low_made_one c.requires.1 c.in-One.is c.made_of-made.ensures }
+pub has-requires-clause-x_bound : goal.has-requires-clause-x_bound
+has-requires-clause-x_bound c = low_made_one c.requires.1 c.in-One.is c.made_of.ensures
 
-pub has-requires-in-Two : goal.has-requires-in-Two
-has-requires-in-Two c = record { class_row = c.requires.0; x_bound = let (x, y) = low_made_two c.requires.1 c.in-Two.is c.made_of-made.ensures in omega arith }
+pub has-requires-in-Two-clause-x_bound : goal.has-requires-in-Two-clause-x_bound
+has-requires-in-Two-clause-x_bound c = let (x, y) = low_made_two c.requires.1 c.in-Two.is c.made_of.ensures in omega arith
 
-pub returns-then-not-has : goal.returns-then-not-has
-returns-then-not-has c = decides_no (idle_right (BuiltClass c.args.rep.now c.args.built.now) c.in-Two.is c.made_of-made.ensures (c.has-in-Two.ensures.no c.if-not-has.true))
-
-pub has-requires-in-Two-2 : goal.has-requires-in-Two-2
-has-requires-in-Two-2 c = record { class_row = c.requires.0; x_bound = (low_made_two c.requires.1 c.in-Two.is c.made_of-made.ensures).0 }
-
-pub returns-in-None : goal.returns-in-None
-returns-in-None c = idle_none (BuiltClass c.args.rep.now c.args.built.now) c.in-None.is c.made_of-made.ensures c.is_own.ensures
+pub has-requires-then-has-clause-x_bound : goal.has-requires-then-has-clause-x_bound
+has-requires-then-has-clause-x_bound c = let (x, y) = low_made_two c.requires.1 c.in-Two.is c.made_of.ensures in omega arith
 
 pub returns-in-One : goal.returns-in-One
-returns-in-One c = idle_one (BuiltClass c.args.rep.now c.args.built.now) c.in-One.is c.made_of-made.ensures c.has.ensures
+returns-in-One c = idle_one (BuiltClass c.args.rep.now c.args.built.now) c.in-One.is c.made_of.ensures c.has.ensures
 
-pub returns-else-not-has : goal.returns-else-not-has
-returns-else-not-has c =
-    idle_two (BuiltClass c.args.rep.now c.args.built.now) c.in-Two.is c.made_of-made.ensures (c.has-in-Two.ensures.yes c.if-not-has.false) c.has-in-Two-2.ensures
+pub returns-then-has : goal.returns-then-has
+returns-then-has c = idle_two (BuiltClass c.args.rep.now c.args.built.now) c.in-Two.is c.made_of.ensures (c.has-in-Two.ensures.yes c.if-has.true) c.has-then-has.ensures
+
+pub returns-else-has : goal.returns-else-has
+returns-else-has c = rw c.if-has.false (decides_no (idle_right (BuiltClass c.args.rep.now c.args.built.now) c.in-Two.is c.made_of.ensures (c.has-in-Two.ensures.no c.if-has.false)))

@@ -5,52 +5,27 @@ use native.Mathlib.Omega.{arith}
 use lib.ListN.{length}
 use Rattle.model.specs.Stored.{table_in}
 use Rattle.reducing.specs.Bare.{Adds}
-use Rattle.reducing.proofs.PartLaws.{low_at}
-use Rattle.reducing.proofs.KeepLaws.{Keeping, keeping_start, keeping_skip, keeping_add, keeping_end}
+use Rattle.reducing.proofs.KeepLaws.{Keeping, keeping_start, keeping_add, keeping_end}
 use borrow.Author.Rules.{rules}
 use Rattle.reducing.proofs.kept.keep.Goals as goal
 
 pub loop-c-init : goal.loop-c-init
 loop-c-init c =
-    let size : length c.args.bare ≡ 129 = search rules in
-    (omega arith, keeping_start c.args.n c.args.table.now c.args.rep.now c.args.bare c.requires.0 c.requires.1 size)
-
-pub overflow_sub-c : goal.overflow_sub-c
-overflow_sub-c c = omega arith
-
-pub bounds-marks-c : goal.bounds-marks-c
-bounds-marks-c c = omega (arith, c.requires.0.rows.few, c.loop-c.invariant.1.size)
-
-pub with_parts-marks-requires : goal.with_parts-marks-requires
-with_parts-marks-requires c = (c.requires.0.classes.low, low_at c.requires.0.rows (c.loop-c.c - 1) c.cell_at.ensures)
-
-pub loop-c-smaller-then-marks-c-eq1 : goal.loop-c-smaller-then-marks-c-eq1
-loop-c-smaller-then-marks-c-eq1 c = omega arith
+    let size : length c.args.bare.now ≡ 129 = search rules in
+    (omega arith, keeping_start c.args.n c.args.table.now c.args.rep.now c.args.bare.now c.requires.0 c.requires.1 size)
 
 pub loop-c-preserved-then-marks-c-eq1 : goal.loop-c-preserved-then-marks-c-eq1
 loop-c-preserved-then-marks-c-eq1 c =
     let i = c.loop-c.c - 1 in
     let z : c.loop-c.c ≡ i + 1 = omega arith in (
       omega arith,
-      keeping_add c.args.n c.args.table.now c.args.rep.now c.args.bare c.requires.0 c.requires.1 i c.loop-c.marks
-          (subst (λ i. Keeping (table_in c.args.table.now) c.args.rep.now c.args.bare i c.loop-c.marks) z c.loop-c.invariant.1)
-          c.with_parts-marks.result c.if-marks-c-eq1.true (subst (λ k. Adds c.args.rep.now c.loop-c.marks k c.with_parts-marks.result) c.cell_at.ensures c.with_parts-marks.ensures),
-    )
-
-pub loop-c-smaller : goal.loop-c-smaller
-loop-c-smaller c = omega arith
-
-pub loop-c-preserved : goal.loop-c-preserved
-loop-c-preserved c =
-    let i = c.loop-c.c - 1 in
-    let z : c.loop-c.c ≡ i + 1 = omega arith in (
-      omega arith,
-      keeping_skip c.args.n c.args.table.now c.args.rep.now c.args.bare c.requires.0 c.requires.1 i c.loop-c.marks
-          (subst (λ i. Keeping (table_in c.args.table.now) c.args.rep.now c.args.bare i c.loop-c.marks) z c.loop-c.invariant.1) c.if-marks-c-eq1.false,
+      keeping_add c.args.n c.args.table.now c.args.rep.now c.args.bare.now c.requires.0 c.requires.1 i c.loop-c.marks
+          (subst (λ i. Keeping (table_in c.args.table.now) c.args.rep.now c.args.bare.now i c.loop-c.marks) z c.loop-c.invariant.1)
+          c.mark_parts.new.marks c.if-marks-c-eq1.true (subst (λ k. Adds c.args.rep.now c.loop-c.marks k c.mark_parts.new.marks) c.cell_at.ensures c.mark_parts.ensures),
     )
 
 pub returns : goal.returns
 returns c =
     let z : c.loop-c.c ≡ 0 = omega arith in
-    keeping_end c.args.n c.args.table.now c.args.rep.now c.args.bare c.requires.0 c.requires.1 c.loop-c.marks
-    (subst (λ i. Keeping (table_in c.args.table.now) c.args.rep.now c.args.bare i c.loop-c.marks) z c.loop-c.invariant.1)
+    keeping_end c.args.n c.args.table.now c.args.rep.now c.args.bare.now c.requires.0 c.requires.1 c.loop-c.marks
+    (subst (λ i. Keeping (table_in c.args.table.now) c.args.rep.now c.args.bare.now i c.loop-c.marks) z c.loop-c.invariant.1)

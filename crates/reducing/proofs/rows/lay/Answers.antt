@@ -2,57 +2,29 @@
 use mathlib.Core.Path.{◌≡◌, sym, ◌∙◌, ap, subst}
 use native.Mathlib.Omega.{arith}
 use lib.ListN.{length, get_or}
+use Rattle.model.specs.Stored.{table_in}
 use Rattle.cells.specs.Cells.{as_cell}
-use Rattle.reducing.specs.Given.{LowParts}
 use Rattle.reducing.specs.Order.{number_at, placed}
-use Rattle.reducing.specs.Plan.{Laid}
+use Rattle.reducing.specs.Plan.{Laid, put_row}
 use Rattle.reducing.proofs.PlanLaws.{laid_start, laid_put}
 use borrow.Author.Rules.{rules}
 use Rattle.reducing.proofs.rows.lay.Goals as goal
 
 pub loop-i-init : goal.loop-i-init
 loop-i-init c =
-    let size : length c.args.bare ≡ 129 = search rules in (
-      omega arith,
-      subst (Laid c.args.table.now c.args.rep.now c.args.numbers.old c.args.numbers.new c.args.bare 0) (sym c.empty_plan-p.ensures)
-          (laid_start c.args.table.now c.args.rep.now c.args.numbers.old c.args.numbers.new c.args.bare),
+    let size : length c.args.bare.now ≡ 129 = search rules in (
+      subst (Laid c.args.table.now c.args.rep.now c.args.numbers.now.old c.args.numbers.now.new c.args.bare.now 0) (sym c.empty_plan-plan.ensures)
+          (laid_start c.args.table.now c.args.rep.now c.args.numbers.now.old c.args.numbers.now.new c.args.bare.now),
       size,
     )
 
-pub bounds-old-i : goal.bounds-old-i
-bounds-old-i c =
-    let size : length c.args.numbers.old ≡ 128 = search rules in
-    omega (arith, size, c.requires.count_bound.0)
-
-pub overflow_cast-c : goal.overflow_cast-c
-overflow_cast-c c = omega (arith, c.requires.count_bound.1 c.loop-i.i c.loop-i-test.true)
-
-pub renumbered-k-requires : goal.renumbered-k-requires
-renumbered-k-requires c = (c.requires.low_classes.0, subst LowParts (sym c.cell_at.ensures) (c.requires.low_classes.1 (get_or c.args.numbers.old c.loop-i.i 0)))
-
-pub bounds-bare-c : goal.bounds-bare-c
-bounds-bare-c c = omega (arith, c.loop-i.invariant.2, c.requires.count_bound.1 c.loop-i.i c.loop-i-test.true)
-
-pub put_row-p-requires : goal.put_row-p-requires
-put_row-p-requires c =
-    (omega (arith, c.loop-i.invariant.1.cells, c.loop-i-test.true, c.requires.count_bound.0), omega (arith, c.loop-i.invariant.1.cells, c.loop-i.invariant.1.below))
-
-pub overflow_add-i : goal.overflow_add-i
-overflow_add-i c = omega (arith, c.loop-i-test.true, c.requires.count_bound.0)
-
-pub loop-i-smaller : goal.loop-i-smaller
-loop-i-smaller c = omega arith
-
 pub loop-i-preserved : goal.loop-i-preserved
-loop-i-preserved c = (
-  omega (arith, c.loop-i-test.true),
-  laid_put c.args.table.now c.args.rep.now c.args.numbers.old c.args.numbers.new c.args.bare c.loop-i.i c.loop-i.p c.loop-i.invariant.1 (omega (arith, c.loop-i-test.true, c.requires.count_bound.0))
-      (as_cell c.renumbered-k.result) c.word_of.result c.put_row-p.result
-      (c.renumbered-k.ensures.placed ∙ ap (placed (number_at c.args.rep.now c.args.numbers.new)) c.cell_at.ensures) c.renumbered-k.ensures.stored c.word_of.ensures c.put_row-p.ensures,
-  c.loop-i.invariant.2,
-)
-
-pub returns : goal.returns
-returns c =
-    let z : c.loop-i.i ≡ c.args.numbers.count = omega arith in
-    subst (λ i. Laid c.args.table.now c.args.rep.now c.args.numbers.old c.args.numbers.new c.args.bare i c.loop-i.p) z c.loop-i.invariant.1
+loop-i-preserved c =
+    let words = c.args.table.now in
+    let f = number_at c.args.rep.now c.args.numbers.now.new in
+    let e : c.from-c.result ≡ get_or c.args.numbers.now.old c.loop-i.i 0 = cc in (
+      laid_put c.args.table.now c.args.rep.now c.args.numbers.now.old c.args.numbers.now.new c.args.bare.now c.loop-i.i c.loop-i.plan c.loop-i.invariant.0 (omega (arith, c.loop-i-test.true, c.requires.count_bound.0))
+          (as_cell c.renumbered-k.result) c.word_of.result c.put_row.new.plan
+          (c.renumbered-k.ensures.placed ∙ (ap (placed f) c.cell_at.ensures ∙ ap (λ i. placed f (table_in words i)) e)) c.renumbered-k.ensures.stored c.word_of.ensures (c.put_row.ensures ∙ ap (λ i. put_row c.loop-i.plan c.word_of.result (get_or c.args.bare.now i 0)) e),
+      c.loop-i.invariant.1,
+    )

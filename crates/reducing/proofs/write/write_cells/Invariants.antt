@@ -1,5 +1,4 @@
 -- The records of the cells below i stand in the buffer; the next goes to 4 * i, where they end.
-use Prim.Native.Nat.{◌-◌, ◌≤◌}
 use mathlib.Core.Path.{◌≡◌}
 use lib.ListN.{length}
 use lib.Seq.{sets}
@@ -9,7 +8,4 @@ use Rattle.reducing.specs.Plan.{up_to}
 use Rattle.reducing.proofs.write.write_cells.Given as goal
 
 abbrev pub invariant-loop-i : goal.invariant-loop-i
-invariant-loop-i l = (l.i ≤ l.n) × (l.out ≡ sets l.initial.out 0 (joined cell_bytes (up_to (table_in l.table) l.i))) × (length l.out ≡ length l.initial.out)
-
-abbrev pub decreases-loop-i : goal.decreases-loop-i
-decreases-loop-i l = l.n - l.i
+invariant-loop-i l = (l.out ≡ sets l.initial.out 0 (joined cell_bytes (up_to (table_in l.plan.table) l.i))) × (length l.out ≡ length l.initial.out)

@@ -1,49 +1,53 @@
 -- What is to be made is built; or what is tried at p joins the choice.
-use mathlib.Core.Path.{sym, ◌∙◌, ap, subst}
-use Prim.Native.Nat.{◌+◌}
+use mathlib.Core.Path.{◌≡◌, refl, sym, ◌∙◌, ap, subst}
 use native.Mathlib.Omega.{arith}
-use Rattle.model.specs.Stored.{table_in, run_in, aim}
-use Rattle.wants.proofs.StartLaws.{fewer_events}
+use lib.ListN.{get_or}
+use Rattle.model.specs.Stored.{table_in, event_in, aim}
+use Rattle.theory.specs.Cells.{class_at}
 use Rattle.knowledge.proofs.ClassRows.{kept_row}
 use Rattle.granting.proofs.GrantLaws.{still_whole}
-use Rattle.solving.specs.Plans.{StageRows, Staged}
-use Rattle.solving.proofs.PlanLaws.{staged_built, staged_tries, rows_fresh, rows_made}
+use Rattle.solving.specs.Plans.{Chosen}
+use Rattle.solving.proofs.PlanLaws.{lacking_goal, chosen_line, staged_built, made_tries}
 use Rattle.solving.proofs.plan.make.Goals as goal
+use Rattle.solving.proofs.plan.make.Goals.{then-st-t-eq1, else-st-t-eq1}
 
-pub opened-o-requires : goal.opened-o-requires
-opened-o-requires c =
-    record { table_words = c.requires.table_words; class_row = kept_row c.requires.table_words c.requires.solved.kept; mark_row = c.requires.stage_rows.seen; mark_row_2 = c.requires.stage_rows.built }
+pub opened-st-requires-clause-class_row : goal.opened-st-requires-clause-class_row
+opened-st-requires-clause-class_row c = kept_row c.requires.table_words c.requires.solved.kept
 
-pub event_at-requires : goal.event_at-requires
-event_at-requires c = omega (arith, c.requires.run_words.few)
+pub has-requires-clause-class_row : goal.has-requires-clause-class_row
+has-requires-clause-class_row c = kept_row c.requires.table_words c.requires.solved.kept
 
-pub has-requires : goal.has-requires
-has-requires c =
-    record { class_row = kept_row c.requires.table_words c.requires.solved.kept; x_bound = omega (arith, c.aim_of.ensures ∙ ap aim c.event_at.ensures, c.requires.run_words.below c.args.p (omega arith), c.requires.table_words.few) }
+pub returns-then-has-clause-made : goal.returns-then-has-clause-made
+returns-then-has-clause-made c = λ count x at v.
+    staged_built c.requires.table_words c.requires.solved count c.args.p c.args.run.now (c.aim_of-aim.ensures ∙ ap aim c.event_at.ensures) at v c.opened-st.ensures
+    (c.has.ensures.yes c.if-has.true)
 
-pub returns-then-has : goal.returns-then-has
-returns-then-has c =
-    record {
-      rows = subst (StageRows (table_in c.args.table.now) c.args.n c.args.rep.now c.args.run.now) (sym c.renewed.ensures)
-          (rows_fresh c.opened-o.ensures.seen_marked c.opened-o.ensures.built_marked c.requires.stage_rows.grant);
-      made = λ count x at v. subst (Staged (table_in c.args.table.now) c.args.n (run_in count c.args.run.now) c.args.rep.now (c.args.p + 1)) (sym c.renewed.ensures)
-          (staged_built c.requires.table_words c.requires.solved count c.args.p c.args.run.now (c.aim_of.ensures ∙ ap aim c.event_at.ensures) at v c.opened-o.ensures (c.has.ensures.yes c.if-has.true));
-    }
+pub by_line-trial-requires-clause-whole : goal.by_line-trial-requires-clause-whole
+by_line-trial-requires-clause-whole c = still_whole c.requires.table_words c.granted-st.ensures.marks.still
 
-pub granted-g-requires : goal.granted-g-requires
-granted-g-requires c =
-    record { table_words = c.requires.table_words; kept = c.requires.solved.kept; run_words = fewer_events c.requires.run_words (omega arith); grant_rows = c.requires.stage_rows.grant }
-
-pub choose-x-requires : goal.choose-x-requires
-choose-x-requires c =
-    record { table_words = c.requires.table_words; kept = c.requires.solved.kept; mark_row = c.opened-o.ensures.seen_marked; mark_row_2 = c.opened-o.ensures.built_marked; whole = still_whole c.requires.table_words c.granted-g.ensures.marks.still; bare_to = c.granted-g.ensures.bare; run_words = c.requires.run_words }
+pub by_line-trial-requires-clause-lacking : goal.by_line-trial-requires-clause-lacking
+by_line-trial-requires-clause-lacking c =
+    lacking_goal c.requires.solved.kept _ (c.class_of-t.ensures ∙ ap (class_at c.args.rep.now) (c.cell.ensures ∙ (c.aim_of-aim.ensures ∙ ap aim c.event_at.ensures)))
+    (c.requires.run_words.below c.args.p (omega arith)) c.if-st-t-eq1.false
 
 pub returns : goal.returns
 returns c =
-    record {
-      rows = subst (StageRows (table_in c.args.table.now) c.args.n c.args.rep.now c.args.run.now) (sym c.renewed-2.ensures)
-          (rows_fresh c.opened-o.ensures.seen_marked c.opened-o.ensures.built_marked (rows_made c.granted-g.ensures.rows c.choose-x.ensures.costs));
-      made = λ count z at v. subst (Staged (table_in c.args.table.now) c.args.n (run_in count c.args.run.now) c.args.rep.now (c.args.p + 1)) (sym c.renewed-2.ensures)
-          (staged_tries c.requires.table_words c.requires.solved count c.args.p c.args.run.now (c.aim_of.ensures ∙ ap aim c.event_at.ensures) at v c.opened-o.ensures (c.has.ensures.no c.if-has.false)
-          c.granted-g.ensures.marks c.choose-x.ensures.chosen c.choose-x.ensures.costs c.better.ensures);
-    }
+    let a = c.args in
+    let s = c.requires in
+    let g = c.granted-st in
+    let j = c.if-st-t-eq1 in
+    let T = table_in a.table.now in
+    let told : c.aim_of-aim.result ≡ aim (event_in (get_or a.run.now a.p 0)) = c.aim_of-aim.ensures ∙ ap aim c.event_at.ensures in
+    elim j.branch [
+      | then-st-t-eq1 w ↦ (
+          let (x, y) = made_tries s.table_words s.solved told {st = a.st.now} c.opened-st.ensures (c.has.ensures.no c.if-has.false) {g' = g.result} g.ensures.rows g.ensures.marks
+          {t = j.trial} (subst (Chosen T a.n a.rep.now c.opened-st.result g.result a.run.now a.p) (sym w.trial-is) (Chosen.all w.by_all-trial.ensures.want w.by_all-trial.ensures.bare))
+          (record { calm = refl; seen = refl; built = refl; bare = refl }) w.st-is c.better.ensures in
+          record { rows = x; made = y })
+      | else-st-t-eq1 w ↦ (
+          let (x, y) = made_tries s.table_words s.solved told {st = a.st.now} c.opened-st.ensures (c.has.ensures.no c.if-has.false) {g' = w.by_line-trial.new.g} g.ensures.rows g.ensures.marks
+          {t = j.trial} (subst (Chosen T a.n a.rep.now c.opened-st.result g.result a.run.now a.p) (sym w.trial-is)
+          (chosen_line (c.class_of-t.ensures ∙ ap (class_at a.rep.now) (c.cell.ensures ∙ told)) w.by_line-trial.ensures g.ensures.bare))
+          w.by_line-trial.ensures.costs w.st-is c.better.ensures in
+          record { rows = x; made = y })
+    ]

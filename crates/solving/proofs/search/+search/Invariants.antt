@@ -9,8 +9,8 @@ use Rattle.solving.proofs.search.+search.Given as goal
 abbrev pub decreases-search : goal.decreases-search
 decreases-search l = class_count l.rep
 
-abbrev pub invariant-loop-pl : goal.invariant-loop-pl
-invariant-loop-pl l = Tried (table_in l.table) l.n (run_in l.count l.run) l.rep l.pl.want l.pl.bare (place l.from.c l.from.d) × (l.from.d ≤ 128)
+abbrev pub invariant-loop-child : goal.invariant-loop-child
+invariant-loop-child l = Tried (table_in l.table) l.n (run_in l.count l.run) l.rep l.plan.trial.want l.plan.trial.bare (place l.from.c l.from.d) × (l.from.d ≤ 128)
 
-abbrev pub decreases-loop-pl : goal.decreases-loop-pl
-decreases-loop-pl l = 16385 - place l.from.c l.from.d
+abbrev pub decreases-loop-child : goal.decreases-loop-child
+decreases-loop-child l = 16385 - place l.from.c l.from.d

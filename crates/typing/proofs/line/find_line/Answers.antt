@@ -1,14 +1,13 @@
 -- The word, then what stands behind it.
-use Rattle.typing.proofs.WordLaws.{line_unspelt, line_spelt, spelt_within}
+use Rattle.std.proofs.lemmas.Result.{err_from_is_err_and}
+use Rattle.typing.proofs.WordLaws.{line_failed, line_found}
 use Rattle.typing.proofs.line.find_line.Goals as goal
 
-pub read_rest-rest-requires : goal.read_rest-rest-requires
-read_rest-rest-requires c = spelt_within c.args.text.now c.args.at c.args.store _ c.read_word-spelt.ensures _ _ c.in-Word.is
+pub returns-in_err-word : goal.returns-in_err-word
+returns-in_err-word c = let p = err_from_is_err_and c.from_residual.result c.from_residual.ensures.1 in rw (p.1, p.2) (c.in_err-word.ensures)
 
-pub returns-in-Wrong : goal.returns-in-Wrong
-returns-in-Wrong c = line_unspelt c.args.text.now c.args.at c.args.store _ c.read_word-spelt.ensures _ c.in-Wrong.is
+pub returns-in_err-to : goal.returns-in_err-to
+returns-in_err-to c = let p = err_from_is_err_and c.from_residual-in_err-to.result c.from_residual-in_err-to.ensures.1 in rw (p.1, p.2) (line_failed c.args.text.now c.args.at c.args.store.now c.read_rest.new.store c.in_ok-word.word c.in_ok-word.behind c.in_ok-word.ensures _ c.in_err-to.ensures)
 
-pub returns-in-Word : goal.returns-in-Word
-returns-in-Word c =
-    line_spelt c.args.text.now c.args.at c.args.store _ c.read_word-spelt.ensures _ _ c.in-Word.is c.read_rest-rest.result
-    c.read_rest-rest.ensures _ c.found_for.ensures
+pub returns : goal.returns
+returns c = line_found c.args.text.now c.args.at c.args.store.now c.read_rest.new.store c.in_ok-word.word c.in_ok-word.behind c.in_ok-word.ensures c.in_ok-to.to c.in_ok-to.cell _ c.in_ok-to.ensures c.event_of.ensures

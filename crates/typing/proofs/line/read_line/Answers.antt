@@ -1,12 +1,10 @@
 -- By what is found of the line.
-use Rattle.typing.proofs.TakeLaws.{read_wrong, read_deep, read_taken}
+use Rattle.std.proofs.lemmas.Result.{err_from_is_err_and}
+use Rattle.typing.proofs.TakeLaws.{read_misread, read_taken}
 use Rattle.typing.proofs.line.read_line.Goals as goal
 
-pub returns-in-Wrong : goal.returns-in-Wrong
-returns-in-Wrong c = read_wrong c.args.text.now c.args.at c.requires c.args.lines _ c.find_line-line.ensures _ c.in-Wrong.is
+pub returns-in_err-to : goal.returns-in_err-to
+returns-in_err-to c = let p = err_from_is_err_and c.from_residual.result c.from_residual.ensures.1 in rw (p.1, p.2) (read_misread c.args.text.now c.args.at c.requires c.args.lines.now c.find_line.new.store _ c.args.lines.now c.in_err-to.ensures)
 
-pub returns-in-Deep : goal.returns-in-Deep
-returns-in-Deep c = read_deep c.args.text.now c.args.at c.requires c.args.lines _ c.find_line-line.ensures _ c.in-Deep.is
-
-pub returns-in-Line : goal.returns-in-Line
-returns-in-Line c = read_taken c.args.text.now c.args.at c.requires c.args.lines _ c.find_line-line.ensures _ _ c.take.result c.in-Line.is c.take.ensures
+pub returns : goal.returns
+returns c = read_taken c.args.text.now c.args.at c.requires c.args.lines.now c.find_line.new.store c.in_ok-to.to c.in_ok-to.event c.in_ok-to.ensures _ _ c.take.ensures

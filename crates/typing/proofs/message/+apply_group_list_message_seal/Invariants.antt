@@ -21,7 +21,7 @@ decreases-seal l = 3 * l.deep
 
 -- The messages before i are read and entered.
 abbrev pub invariant-list-loop-to : goal.invariant-list-loop-to
-invariant-list-loop-to l = ListAt l.text l.at (17 - l.deep) l.fn.store l.i l.s l.items
+invariant-list-loop-to l = ListAt l.text l.at (17 - l.deep) l.fn.store l.i l.store l.items
 
 abbrev pub decreases-list-loop-to : goal.decreases-list-loop-to
 decreases-list-loop-to l = length l.text - l.i

@@ -1,13 +1,9 @@
 -- The word is there, or it is new.
-use native.Mathlib.Omega.{arith}
-use Rattle.typing.proofs.StoreLaws.{found_few, put_at, put_nowhere}
+use Rattle.typing.proofs.StoreLaws.{put_at, put_nowhere}
 use Rattle.typing.proofs.store.enter.Goals as goal
 
-pub overflow_cast-result : goal.overflow_cast-result
-overflow_cast-result c = omega (arith, found_few c.args.store c.args.word _ c.find-place.ensures _ c.in-At.is)
+pub returns-in-Some : goal.returns-in-Some
+returns-in-Some c = put_at c.args.store.now c.args.word _ c.in-Some.ensures
 
-pub returns-in-At : goal.returns-in-At
-returns-in-At c = put_at c.args.store c.args.word _ c.find-place.ensures _ c.in-At.is
-
-pub returns-in-Nowhere : goal.returns-in-Nowhere
-returns-in-Nowhere c = put_nowhere c.args.store c.args.word _ c.find-place.ensures _ c.in-Nowhere.is c.add.ensures
+pub returns-in-None : goal.returns-in-None
+returns-in-None c = put_nowhere c.args.store.now c.args.word _ c.in-None.ensures c.add.ensures

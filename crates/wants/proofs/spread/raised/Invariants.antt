@@ -3,8 +3,8 @@ use Rattle.knowledge.specs.Sweeps.{missing}
 use Rattle.wants.specs.Starts.{Wider}
 use Rattle.wants.proofs.spread.raised.Given as goal
 
-abbrev pub invariant-loop-m : goal.invariant-loop-m
-invariant-loop-m l = Wider l.rep l.initial.m l.m
+abbrev pub invariant-loop : goal.invariant-loop
+invariant-loop l = Wider l.rep l.initial.m l.m
 
-abbrev pub decreases-loop-m : goal.decreases-loop-m
-decreases-loop-m l = missing l.m
+abbrev pub decreases-loop : goal.decreases-loop
+decreases-loop l = missing l.m

@@ -1,20 +1,15 @@
--- A case for each kind of event, and for the test.
+-- An event that makes a cell has its class if that is held.
 use mathlib.Core.Path.{◌∙◌, ap}
-use native.Mathlib.Omega.{arith}
 use Rattle.theory.specs.Cells.{class_at}
+use Rattle.theory.proofs.Decides.{decides_eqb}
 use Rattle.cells.specs.Cells.{as_event}
-use Rattle.wants.proofs.StartLaws.{due_learnt, due_new, due_unheld}
+use Rattle.wants.proofs.StartLaws.{due_learnt, due_pick}
 use Rattle.wants.proofs.starts.due_at.Goals as goal
 
-pub bounds-hold-t : goal.bounds-hold-t
-bounds-hold-t c = omega (arith, c.class_of-t.ensures, c.requires.class_row.low c.cell.result)
-
-pub returns-then-hold-t-ne1 : goal.returns-then-hold-t-ne1
-returns-then-hold-t-ne1 c =
-    due_unheld c.args.rep.now c.args.hold.now (ap as_event c.in-Make.is) (c.class_of-t.ensures ∙ ap (class_at c.args.rep.now) c.cell.ensures) c.if-hold-t-ne1.true
-
-pub returns-else-hold-t-ne1 : goal.returns-else-hold-t-ne1
-returns-else-hold-t-ne1 c = due_new c.args.rep.now c.args.hold.now (ap as_event c.in-Make.is) (c.class_of-t.ensures ∙ ap (class_at c.args.rep.now) c.cell.ensures)
+pub returns-in-Make : goal.returns-in-Make
+returns-in-Make c =
+    rw c.then_some.ensures (due_pick (ap as_event c.in-Make.is) (c.class_of-t.ensures ∙ ap (class_at c.args.rep.now) c.cell.ensures) _
+    (decides_eqb _ 1 (λ x. x) (λ x. x)))
 
 pub returns-in-Learn : goal.returns-in-Learn
-returns-in-Learn c = due_learnt c.args.rep.now c.args.hold.now (ap as_event c.in-Learn.is)
+returns-in-Learn c = due_learnt (ap as_event c.in-Learn.is)

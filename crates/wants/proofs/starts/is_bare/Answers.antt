@@ -1,30 +1,24 @@
--- Where the answer is no, c is not seen, is not kin to itself, or has both parts built; else a part is missing.
-use borrow.Author.Tests.{eq-eqb, eqb-true, not-false, not-true}
-use mathlib.Core.Path.{sym, ◌∙◌}
-use mathlib.Core.Bool.{true≢false}
-use Rattle.model.specs.Stored.{table_in}
-use Rattle.theory.proofs.Decides.{decides_no, decides_yes}
-use Rattle.wants.proofs.StartLaws.{bare_unkin, bare_made, bare_here}
+-- Where c is not seen, or not kin to itself, it is not bare; else it is if a part is not built.
+use borrow.Author.Tests.{eqb-true, eqb-false, not-false, not-true}
+use Rattle.theory.proofs.Decides.{decides_no}
+use Rattle.wants.proofs.StartLaws.{bare_unkin, bare_decides}
 use Rattle.wants.proofs.starts.is_bare.Goals as goal
+use Rattle.wants.proofs.starts.is_bare.Goals.{then-seen-c-ne1-via-then-seen-c-ne1, then-seen-c-ne1-via-else-seen-c-ne1+then-not-kin_at}
 
 pub returns-then-seen-c-ne1 : goal.returns-then-seen-c-ne1
-returns-then-seen-c-ne1 c = decides_no (λ w. c.if-seen-c-ne1.true w.whole)
+returns-then-seen-c-ne1 c =
+    elim c.then-seen-c-ne1.branch [
+      | then-seen-c-ne1-via-then-seen-c-ne1 w ↦ decides_no (λ b. w.if-seen-c-ne1.true b.whole)
+      | then-seen-c-ne1-via-else-seen-c-ne1+then-not-kin_at w ↦ decides_no (bare_unkin
+          (w.kin_at.ensures.no w.if-not-kin_at.true))
+    ]
 
-pub returns-then-not-kin_at : goal.returns-then-not-kin_at
-returns-then-not-kin_at c =
-    decides_no (bare_unkin (table_in c.args.table.now) c.args.rep.now c.args.seen.now c.args.built.now c.args.c (c.kin_at.ensures.no c.if-not-kin_at.true))
+pub returns-then-built-e-ne1 : goal.returns-then-built-e-ne1
+returns-then-built-e-ne1 c =
+    bare_decides c.ends-e.ensures
+    (c.kin_at.ensures.yes c.if-not-kin_at.false) c.if-seen-c-ne1.false (λ _ o _. c.if-built-e-ne1.true o) (λ i. absurd (c.if-built-e-ne1.true (eqb-true _ _ (not-false _ i))))
 
-pub returns-then-built-a-ne1 : goal.returns-then-built-a-ne1
-returns-then-built-a-ne1 c =
-    decides_yes (bare_here (table_in c.args.table.now) c.args.rep.now c.args.seen.now c.args.built.now c.args.c c.ends-e.result.left c.ends-e.result.right c.ends-e.ensures
-    (c.kin_at.ensures.yes c.if-not-kin_at.false) c.if-seen-c-ne1.false (λ o _. c.if-built-a-ne1.true o))
-
-pub returns : goal.returns
-returns c =
-    let kin = c.kin_at.ensures.yes c.if-not-kin_at.false in
-    record {
-      yes = λ r. bare_here (table_in c.args.table.now) c.args.rep.now c.args.seen.now c.args.built.now c.args.c c.ends-e.result.left c.ends-e.result.right c.ends-e.ensures kin
-          c.if-seen-c-ne1.false (λ _ o. true≢false (sym (eq-eqb _ 1 o) ∙ not-true _ r));
-      no = λ r. bare_made (table_in c.args.table.now) c.args.rep.now c.args.seen.now c.args.built.now c.args.c c.ends-e.result.left c.ends-e.result.right c.ends-e.ensures kin
-          c.if-built-a-ne1.false (eqb-true _ _ (not-false _ r));
-    }
+pub returns-else-built-e-ne1 : goal.returns-else-built-e-ne1
+returns-else-built-e-ne1 c =
+    bare_decides c.ends-e.ensures
+    (c.kin_at.ensures.yes c.if-not-kin_at.false) c.if-seen-c-ne1.false (λ i _ o. eqb-false _ _ (not-true _ i) o) (λ i. (c.if-built-e-ne1.false, eqb-true _ _ (not-false _ i)))

@@ -1,5 +1,0 @@
--- The tenth's digits, then the last one.
-use Rattle.enter.proofs.refusal.+put_number.Given as goal
-
-abbrev pub decreases-put_number : goal.decreases-put_number
-decreases-put_number l = l.n

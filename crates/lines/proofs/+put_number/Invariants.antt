@@ -1,0 +1,5 @@
+-- The tenth's digits, then the last one.
+use Rattle.lines.proofs.+put_number.Given as goal
+
+abbrev pub decreases-put_number : goal.decreases-put_number
+decreases-put_number l = l.n

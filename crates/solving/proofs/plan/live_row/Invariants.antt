@@ -1,9 +1,0 @@
--- The count is a guide only: there is nothing to show of it but that it fits.
-use Prim.Native.Nat.{◌≤◌, ◌-◌}
-use Rattle.solving.proofs.plan.live_row.Given as goal
-
-abbrev pub invariant-loop-d : goal.invariant-loop-d
-invariant-loop-d l = l.d ≤ l.n
-
-abbrev pub decreases-loop-d : goal.decreases-loop-d
-decreases-loop-d l = l.n - l.d
