@@ -14,7 +14,7 @@ use cells::{Event, Run, Table, aim_of, event_at};
 use classes::clash::clash;
 use classes::class_of;
 use granting::grants::{Grant, granted};
-use granting::line::line;
+use granting::line::{line, live_row};
 use knowledge::{Marks, cell, has, learn, open_known, own_marks};
 use wants::bares;
 use wants::sets::wanted;
@@ -46,37 +46,17 @@ struct Stage {
     pub best: Option<Choice>,
 }
 
-// A guide: the number of pairs in the row of c that do not clash at once.
-fn live_row(
-    table: &Table,
-    n: usize,
-    rep: &[u8; 129],
-    want: &[u8; 129],
-    bare: &[u8; 129],
-    c: usize,
-) -> u8
-    requires table_words { TableWords n table.now }
-    requires kept { Kept n (table_in table.now) rep.now }
-    requires c_lt_n { c < n }
-{
-    (0..n)
-        .filter(|d| {
-            pairing(table, rep, want, bare, c, *d) && !clash(table, n, rep, c as u8, *d as u8, 3)
-        })
-        .count() as u8
-}
-
-// A guide: the number of such pairs, up to 254.
+// A guide: the number of pairs of a wanted cell and a bare one that do not clash at once, up to 254.
 fn live(table: &Table, n: usize, rep: &[u8; 129], want: &[u8; 129], bare: &[u8; 129]) -> u8
     requires table_words { TableWords n table.now }
     requires kept { Kept n (table_in table.now) rep.now }
 {
-    let mut k: u8 = 0;
+    let mut k = 0;
     for c in 0..n {
         if want[c] == 1 {
-            k = k
-                .saturating_add(live_row(table, n, rep, want, bare, c))
-                .min(254);
+            k = live_row(n, k, |d| {
+                pairing(table, rep, want, bare, c, d) && !clash(table, n, rep, c as u8, d as u8, 3)
+            });
         }
     }
     k
