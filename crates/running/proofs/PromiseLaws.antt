@@ -1,16 +1,16 @@
 -- From what is read of the bytes and what the search says to the promise; and that the promise settles the reply.
 use mathlib.Core.Path.{◌≡◌, refl, sym, ◌∙◌, ap, subst}
-use mathlib.Core.List.{List}
+use mathlib.Core.List.{List, ◌++◌}
 use mathlib.Core.Logic.{inl, inr}
 use Prim.Native.Nat.{ℕ, ◌≤◌}
 use native.Mathlib.Decide.{dec_lt}
 use native.Mathlib.Omega.{arith}
-use lib.ListN.{length, take}
+use lib.ListN.{length, take, drop}
 use Rattle.std.specs.Prelude.{Option, Some, None, Result, Ok}
 use Rattle.model.specs.Case.{File, WellFormed, table_of, run_of}
 use Rattle.model.specs.Format.{read_file, Reading, refused, accepted}
 use Rattle.model.specs.Stored.{table_in, run_in}
-use Rattle.model.specs.Replies.{RightListed, NoneRight, laid, SameButList}
+use Rattle.model.specs.Replies.{RightListed, NoneRight, SameButList}
 use Rattle.model.proofs.Accepted.{Bytes, accepted_file}
 use Rattle.model.proofs.Read.{clash, list_values}
 use Rattle.model.proofs.Settled.{NoOrList, refusals_alike, answers_alike}
@@ -55,14 +55,14 @@ module _ (file before : List ℕ) (f : File) (r : read_file file ≡ accepted f)
       yes = λ g q i. clash (cc);
     }
 
-    pub promise_yes : (list : List ℕ) → Solves (table_of f.cells) (length f.cells) (run_of f.events) (Some list) → (after : List ℕ) → after ≡ laid (take (length f.cells) list) before →
-        RunPromise file before (Ok (Some (length f.cells))) after
-    promise_yes list w after k = record {
+    pub promise_yes : (list : List ℕ) → Solves (table_of f.cells) (length f.cells) (run_of f.events) (Some list) → (front : List ℕ) → front ≡ take (length f.cells) list →
+        RunPromise file before (Ok (Some (length f.cells))) (front ++ drop (length f.cells) before)
+    promise_yes list w front k = record {
       refused = λ n p i. clash (cc);
       short = λ g i h. absurd (omega (arith, one_length i));
       replied = λ g q. inr (ap (λ n. Ok (Some n)) (one_length q.read));
       no = λ g q i. clash (cc);
-      yes = λ g q _. (take (length f.cells) list, subst (λ g. RightListed g (take (length f.cells) list)) (one q.read) (w.form, w.right), k);
+      yes = λ g q _. (take (length f.cells) list, subst (λ g. RightListed g (take (length f.cells) list)) (one q.read) (w.form, w.right), rw (k, w.form.size) refl);
     }
 
 -- ---- the promise, of the words that were read
@@ -75,10 +75,10 @@ module _ {file : List ℕ} {r : Case} (w : CaseFile file r) (before : List ℕ) 
   reply_no h = promise_no file before w.f w.read enough (case_solved w b None h)
 
   pub reply_yes : (list : List ℕ) → Solves (table_in r.table.words) r.table.count (run_in r.run.count r.run.words) (Some list) →
-      (after : List ℕ) → after ≡ laid (take r.table.count list) before → RunPromise file before (Ok (Some r.table.count)) after
-  reply_yes list h after =
-      subst (λ n. after ≡ laid (take n list) before → RunPromise file before (Ok (Some n)) after) (sym (case_count w))
-      (promise_yes file before w.f w.read enough list (case_solved w b (Some list) h) after)
+      (front : List ℕ) → front ≡ take r.table.count list → RunPromise file before (Ok (Some r.table.count)) (front ++ drop r.table.count before)
+  reply_yes list h front =
+      subst (λ n. front ≡ take n list → RunPromise file before (Ok (Some n)) (front ++ drop n before)) (sym (case_count w))
+      (promise_yes file before w.f w.read enough list (case_solved w b (Some list) h) front)
 
 -- ---- the promise settles the reply
 

@@ -15,10 +15,11 @@ pub returns-in_default : goal.returns-in_default
 returns-in_default c =
     let w = case_accepted c.args.file.now c.read_case.result c.read_case.ensures c.in_ok-case.case c.in_ok-case.was in
     let b : Bytes c.args.file.now = λ i. search rules in
-    reply_no w c.args.out.now b c.if-out-n.false c.in_default.ensures
+    search (rules, reply_no w c.args.out.now b c.if-out-n.false)
 
 pub returns : goal.returns
 returns c =
     let w = case_accepted c.args.file.now c.read_case.result c.read_case.ensures c.in_ok-case.case c.in_ok-case.was in
     let b : Bytes c.args.file.now = λ i. search rules in
-    reply_yes w c.args.out.now b c.if-out-n.false c.in-Some.list c.in-Some.ensures _ (search rules)
+    let h = reply_yes w c.args.out.now b c.if-out-n.false c.in-Some.list c.in-Some.ensures c.copy_from_slice.new.self c.copy_from_slice.ensures.after in
+    search rules
