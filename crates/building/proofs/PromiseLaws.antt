@@ -19,41 +19,17 @@ use Rattle.theory.specs.Cells.{class_at}
 use Rattle.knowledge.specs.declared.heard.Knowledge.{Knowledge}
 use Rattle.knowledge.specs.Heard.{FileKnown}
 use Rattle.knowledge.proofs.Grow.{marked?}
-use Rattle.building.specs.declared.Marked.{Marked}
-use Rattle.building.specs.declared.Marked.TheVariants.{Refused, Marks}
+use Rattle.std.specs.Prelude.{Result, Ok}
+use Rattle.refusals.specs.declared.Refusal.{Refusal}
 use Rattle.building.specs.Lay.{Lays}
 use Rattle.building.specs.Promise.{MarksPromise}
 use Rattle.building.proofs.LayLaws.{lays_length, lays_front, lays_laid}
 
 -- ---- the replies
 
-pub promise_refused : (file before : List ℕ) (n p : ℕ) → read_file file ≡ Reading.refused n p → MarksPromise file before (Refused n p) before
-promise_refused file before n p e = record {
-  refused = λ k q i. (cc, refl);
-  variable = λ f at i v. clash (cc);
-  short = λ f i v h. clash (cc);
-  marks = λ f i v h. clash (cc);
-}
-
 module _ (file before : List ℕ) (f : File) (e : read_file file ≡ Reading.accepted f) where
   same : {g : File} → read_file file ≡ Reading.accepted g → f ≡ g
   same i = cc
-
-  pub promise_variable : (at : ℕ) → first_variable f.cells ≡ some at → MarksPromise file before (Refused 8 at) before
-  promise_variable at v = record {
-    refused = λ n p i. clash (cc);
-    variable = λ g b i w. (let z = same i in cc, refl);
-    short = λ g i w h. (let z = same i in clash (cc));
-    marks = λ g i w h. (let z = same i in clash (cc));
-  }
-
-  pub promise_short : first_variable f.cells ≡ none → length before < length f.cells → MarksPromise file before (Refused 9 (length f.cells)) before
-  promise_short v l = record {
-    refused = λ n p i. clash (cc);
-    variable = λ g b i w. (let z = same i in clash (cc));
-    short = λ g i w h. (ap (λ x. Refused 9 (length x.cells)) (same i), refl);
-    marks = λ g i w h. absurd (omega (arith, ap (λ x. length x.cells) (same i)));
-  }
 
   -- The mark of a class is that of its cells.
   mark_of : {r : Knowledge} → FileKnown f r → (c x : ℕ) → x ≡ get_or r.built (class_at r.rep c) 0 → Mark (Built (HeardOf f) (messages_of f c)) x
@@ -63,7 +39,7 @@ module _ (file before : List ℕ) (f : File) (e : read_file file ≡ Reading.acc
   ]
 
   pub promise_marks : {r : Knowledge} {after : List ℕ} → first_variable f.cells ≡ none → length f.cells ≤ length before → FileKnown f r →
-      Lays (length f.cells) r.rep r.built before after → MarksPromise file before (Marks (length f.cells)) after
+      Lays (length f.cells) r.rep r.built before after → MarksPromise file before (Ok (length f.cells)) after
   promise_marks {r} {after} v l k w = record {
     refused = λ n p i. clash (cc);
     variable = λ g b i u. (let z = same i in clash (cc));
@@ -72,7 +48,7 @@ module _ (file before : List ℕ) (f : File) (e : read_file file ≡ Reading.acc
   }
     where
       Reply : File → Type 0
-      Reply g = (Marks (length f.cells) ≡ Marks (length g.cells)) × (list : List ℕ) × MarkList g list × (after ≡ laid list before)
+      Reply g = (◌≡◌ {A = Result ℕ Refusal} (Ok (length f.cells)) (Ok (length g.cells))) × (list : List ℕ) × MarkList g list × (after ≡ laid list before)
 
 -- ---- the promise settles them
 
@@ -86,7 +62,7 @@ mark_one (unset p) (unset q) = refl
 pub mark_list_one : (f : File) (l m : List ℕ) → MarkList f l → MarkList f m → l ≡ m
 mark_list_one f l m (v, n, a) (w, k, b) = ext_get_or 0 l m (n ∙ sym k) (λ i h. mark_one (a i (omega arith)) (b i (omega arith)))
 
-module _ {file before : List ℕ} {r r' : Marked} {after after' : List ℕ} (p : MarksPromise file before r after) (q : MarksPromise file before r' after') where
+module _ {file before : List ℕ} {r r' : Result ℕ Refusal} {after after' : List ℕ} (p : MarksPromise file before r after) (q : MarksPromise file before r' after') where
   settled_file : (f : File) → read_file file ≡ Reading.accepted f → (o : Option ℕ) → first_variable f.cells ≡ o → (r ≡ r') × (after ≡ after')
   settled_file f e (some at) v = both (p.variable f at e v) (q.variable f at e v)
   settled_file f e none v = elim (dec_lt (length before) (length f.cells)) [
@@ -103,15 +79,15 @@ module _ {file before : List ℕ} {r r' : Marked} {after after' : List ℕ} (p :
   promise_settled = settled_as (read_file file) refl
 
 -- Marks that are shown of an accepted file are those that are written, wherever they find room.
-pub promise_listed : {file before : List ℕ} {r : Marked} {after : List ℕ} → MarksPromise file before r after → (f : File) (list : List ℕ) →
-    read_file file ≡ Reading.accepted f → MarkList f list → length list ≤ length before → (r ≡ Marks (length list)) × (after ≡ laid list before)
+pub promise_listed : {file before : List ℕ} {r : Result ℕ Refusal} {after : List ℕ} → MarksPromise file before r after → (f : File) (list : List ℕ) →
+    read_file file ≡ Reading.accepted f → MarkList f list → length list ≤ length before → (r ≡ Ok (length list)) × (after ≡ laid list before)
 promise_listed {before = before} p f list e (v, n, a) room =
     let (i, l, m, b) = p.marks f e v (omega arith) in
-    (i ∙ ap Marks (sym n), b ∙ ap (λ x. laid x before) (mark_list_one f l list m (v, n, a)))
+    (i ∙ ap Ok (sym n), b ∙ ap (λ x. laid x before) (mark_list_one f l list m (v, n, a)))
 
 -- ---- a mark that is written
 
-pub promise_mark : {file before : List ℕ} {n : ℕ} {after : List ℕ} → MarksPromise file before (Marks n) after → (f : File) → read_file file ≡ Reading.accepted f →
+pub promise_mark : {file before : List ℕ} {n : ℕ} {after : List ℕ} → MarksPromise file before (Ok n) after → (f : File) → read_file file ≡ Reading.accepted f →
     (c : ℕ) → c < n → Mark (Built (HeardOf f) (messages_of f c)) (get_or after c 0)
 promise_mark {file} {before} {n} {after} p f e c h = go (first_variable f.cells) refl
   where

@@ -22,8 +22,9 @@ use Rattle.casefile.proofs.CaseFile.{CaseFile, case_words, case_count, case_tabl
 use Rattle.classes.specs.declared.Settled.{Settled}
 use Rattle.classes.specs.Settle.{Unifies}
 use Rattle.classes.specs.Twins.{Start}
-use Rattle.equating.specs.declared.Equated.{Equated}
-use Rattle.equating.specs.declared.Equated.TheVariants.{Refused, No, Listed}
+use Rattle.std.specs.Prelude.{Option, Some, None, Result, Ok}
+use Rattle.refusals.specs.declared.Refusal.{Refusal}
+use Rattle.refusals.specs.Refused.{Refused}
 use Rattle.equating.specs.Entries.{list_of}
 use Rattle.equating.specs.Promise.{Asked, Answered, EquatePromise}
 use Rattle.equating.proofs.ClassLaws.{classes_never, classes_list}
@@ -32,16 +33,6 @@ use Rattle.equating.proofs.EndsLaws.{equates_values}
 -- ---- the promise
 
 module _ (file : List ℕ) (a b : ℕ) (before : List ℕ) where
-  pub promise_refused : (number place : ℕ) → read_file file ≡ refused number place → EquatePromise file a b before (Refused number place) before
-  promise_refused number place r = record {
-    refused = λ n p e. (let z : refused number place ≡ refused n p = sym r ∙ e in cc, refl);
-    outside = λ f e. clash (cc);
-    short = λ f q. (let e = q.read in clash (cc));
-    replied = λ f q. (let e = q.asked.read in clash (cc));
-    no = λ f q. (let e = q.asked.read in clash (cc));
-    listed = λ f q. (let e = q.asked.read in clash (cc));
-  }
-
   module _ (f : File) (r : read_file file ≡ accepted f) where
     -- The bytes are read as one file.
     one : {g : File} → read_file file ≡ accepted g → f ≡ g
@@ -68,7 +59,7 @@ module _ (file : List ℕ) (a b : ℕ) (before : List ℕ) where
       }
 
       module _ (room : length f.cells ≤ length before) where
-        pub promise_no : NeverEqual f a b → EquatePromise file a b before No before
+        pub promise_no : NeverEqual f a b → EquatePromise file a b before (Ok None) before
         promise_no never = record {
           refused = λ n p e. clash (cc);
           outside = λ g e o. not_outside e o;
@@ -78,12 +69,12 @@ module _ (file : List ℕ) (a b : ℕ) (before : List ℕ) where
           listed = λ g q i. clash (cc);
         }
 
-        pub promise_listed : (list after : List ℕ) → EquatedBy f a b list → after ≡ laid list before → EquatePromise file a b before (Listed (length f.cells)) after
+        pub promise_listed : (list after : List ℕ) → EquatedBy f a b list → after ≡ laid list before → EquatePromise file a b before (Ok (Some (length f.cells))) after
         promise_listed list after w k = record {
           refused = λ n p e. clash (cc);
           outside = λ g e o. not_outside e o;
           short = λ g q s. absurd (omega (arith, one_length q.read));
-          replied = λ g q. inr (ap Listed (one_length q.asked.read));
+          replied = λ g q. inr (ap (λ (n : ℕ). Ok (Some n)) (one_length q.asked.read));
           no = λ g q i. clash (cc);
           listed = λ g q _. (list, subst (λ g. EquatedBy g a b list) (one q.asked.read) w, k);
         }
@@ -119,7 +110,7 @@ module _ {file : List ℕ} {r : Case} (w : CaseFile file r) (a b : ℕ) (before 
           subst (λ (T : Table). (ρ : ℕ → Message) → message T ρ a ≡ message T ρ b → ⊥) (case_table w bytes)
           (classes_never r.table.count r.table.words (case_words w bytes) first start a b s u e)
 
-      pub reply_no : s.ok ≡ false → EquatePromise file a b before No before
+      pub reply_no : s.ok ≡ false → EquatePromise file a b before (Ok None) before
       reply_no e = promise_no file a b before w.f w.read file_inside enough (never e)
 
       abbrev list : List ℕ
@@ -132,9 +123,9 @@ module _ {file : List ℕ} {r : Case} (w : CaseFile file r) (a b : ℕ) (before 
           (classes_list r.table.count r.table.words (case_words w bytes) first start a b s u e))
 
       pub reply_listed : s.ok ≡ true → (after : List ℕ) → after ≡ laid (list_of (table_in r.table.words) s.rep r.table.count) before →
-          EquatePromise file a b before (Listed r.table.count) after
+          EquatePromise file a b before (Ok (Some r.table.count)) after
       reply_listed e after k =
-          subst (λ (n : ℕ). EquatePromise file a b before (Listed n) after) (sym (case_count w))
+          subst (λ (n : ℕ). EquatePromise file a b before (Ok (Some n)) after) (sym (case_count w))
           (promise_listed file a b before w.f w.read file_inside enough list after (equated e) k)
 
 -- ---- "no" and a list exclude each other
@@ -149,15 +140,15 @@ never_equated file f a b list read never w = let (ρ, e) = equated_values file f
 
 -- ---- the list as it stands in the buffer
 
-module _ (file : List ℕ) (a b : ℕ) (before : List ℕ) (reply : Equated) (after : List ℕ) (p : EquatePromise file a b before reply after) (f : File) (q : Answered file a b before f) where
-  pub listed_front : reply ≡ Listed (length f.cells) → EquatedBy f a b (take (length f.cells) after) × (drop (length f.cells) after ≡ drop (length f.cells) before)
+module _ (file : List ℕ) (a b : ℕ) (before : List ℕ) (reply : Result (Option ℕ) Refusal) (after : List ℕ) (p : EquatePromise file a b before reply after) (f : File) (q : Answered file a b before f) where
+  pub listed_front : reply ≡ Ok (Some (length f.cells)) → EquatedBy f a b (take (length f.cells) after) × (drop (length f.cells) after ≡ drop (length f.cells) before)
   listed_front e =
       let (list, w, k) = p.listed f q e in
       let n = length f.cells in
       (subst (EquatedBy f a b) (sym (ap (take n) k ∙ laid_front list before n w.size)) w, ap (drop n) k ∙ laid_beyond list before n w.size)
 
   -- The reply is "no" if no values make the two cells equal.
-  pub no_of_never : NeverEqual f a b → reply ≡ No
+  pub no_of_never : NeverEqual f a b → reply ≡ Ok None
   no_of_never never = elim (p.replied f q) [
     | inl e ↦ e
     | inr e ↦ (let (list, w, k) = p.listed f q e in absurd (never_equated file f a b list q.asked.read never w))
@@ -165,16 +156,16 @@ module _ (file : List ℕ) (a b : ℕ) (before : List ℕ) (reply : Equated) (af
 
 -- ---- the promise settles the reply
 
-module _ (file : List ℕ) (a b : ℕ) (before : List ℕ) (r r' : Equated) (after after' : List ℕ)
+module _ (file : List ℕ) (a b : ℕ) (before : List ℕ) (r r' : Result (Option ℕ) Refusal) (after after' : List ℕ)
     (p : EquatePromise file a b before r after) (p' : EquatePromise file a b before r' after') where
   pub settled : (r ≡ r') × SameButList (λ f. EquatedBy f a b) file before after after'
   settled = go (read_file file) refl
     where
-      alike : {x : Equated} → (r ≡ x) × (after ≡ before) → (r' ≡ x) × (after' ≡ before) → (r ≡ r') × SameButList (λ f. EquatedBy f a b) file before after after'
+      alike : {x : Result (Option ℕ) Refusal} → (r ≡ x) × (after ≡ before) → (r' ≡ x) × (after' ≡ before) → (r ≡ r') × SameButList (λ f. EquatedBy f a b) file before after after'
       alike = refusals_alike (λ f. EquatedBy f a b) file before
 
-      replies : (f : File) → Answered file a b before f → {r : Equated} {after : List ℕ} → EquatePromise file a b before r after →
-          NoOrList No (Listed (length f.cells)) (NeverEqual f a b) (EquatedBy f a b) before r after
+      replies : (f : File) → Answered file a b before f → {r : Result (Option ℕ) Refusal} {after : List ℕ} → EquatePromise file a b before r after →
+          NoOrList (Ok None) (Ok (Some (length f.cells))) (NeverEqual f a b) (EquatedBy f a b) before r after
       replies f q p = record { replied = p.replied f q; never = p.no f q; listed = p.listed f q }
 
       asked : (f : File) → Asked file a b f → (r ≡ r') × SameButList (λ f. EquatedBy f a b) file before after after'

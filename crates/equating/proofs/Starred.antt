@@ -1,4 +1,4 @@
--- File R of document 01: each reply that meets the promise is "no" for the cells 0 and 2, and for the cells 0 and 1 the list 1, 1, 2, the only one that equates them.
+-- File R, VA AT 0001 PR 00 01 EN: each reply that meets the promise is "no" for the cells 0 and 2, and for the cells 0 and 1 the list 1, 1, 2, the only one that equates them.
 -- So a version that refuses everything, never changes its reply or writes nothing does not meet the promise.
 use mathlib.Core.Path.{◌≡◌, refl, sym, ◌∙◌, ap, subst}
 use mathlib.Core.List.{List, [], ◌∷◌}
@@ -14,8 +14,8 @@ use Rattle.model.proofs.Read.{clash, message_self}
 use Rattle.model.proofs.Accepted.{accepted_file}
 use Rattle.model.proofs.Claims.{R, bytes_of}
 use Rattle.model.proofs.Starred.{read_as_lem, starred_hold}
-use Rattle.equating.specs.declared.Equated.{Equated}
-use Rattle.equating.specs.declared.Equated.TheVariants.{No, Listed}
+use Rattle.std.specs.Prelude.{Option, Some, None, Result, Ok}
+use Rattle.refusals.specs.declared.Refusal.{Refusal}
 use Rattle.equating.specs.Promise.{Answered, EquatePromise}
 use Rattle.equating.proofs.PromiseLaws.{no_of_never, never_equated}
 
@@ -74,19 +74,19 @@ r_only (x ∷ y ∷ z ∷ []) w =
     let first : x ≡ 1 = entry_one x w' x refl in
     cc
 
-module _ (before after : List ℕ) (reply : Equated) (room : 3 ≤ length before) where
+module _ (before after : List ℕ) (reply : Result (Option ℕ) Refusal) (room : 3 ≤ length before) where
   answered : (b : ℕ) → b ≤ 2 → Answered (bytes_of R) 0 b before file_r
   answered b h = record { asked = record { read = read_as_lem R; first = omega arith; second = omega arith }; room = room }
 
   -- Cells 0 and 2: "no", and nothing is written.
-  pub r_replies_no : EquatePromise (bytes_of R) 0 2 before reply after → (reply ≡ No) × (after ≡ before)
+  pub r_replies_no : EquatePromise (bytes_of R) 0 2 before reply after → (reply ≡ Ok None) × (after ≡ before)
   r_replies_no p =
       let q = answered 2 (omega arith) in
       let e = no_of_never (bytes_of R) 0 2 before reply after p file_r q r_never in
       (e, (p.no file_r q e).1)
 
   -- Cells 0 and 1: the list 1, 1, 2.
-  pub r_replies_list : EquatePromise (bytes_of R) 0 1 before reply after → (reply ≡ Listed 3) × (after ≡ 1 ∷ 1 ∷ 2 ∷ drop 3 before)
+  pub r_replies_list : EquatePromise (bytes_of R) 0 1 before reply after → (reply ≡ Ok (Some 3)) × (after ≡ 1 ∷ 1 ∷ 2 ∷ drop 3 before)
   r_replies_list p = elim (p.replied file_r q) [
     | inl e ↦ absurd (never_equated (bytes_of R) file_r 0 1 (1 ∷ 1 ∷ 2 ∷ []) (read_as_lem R) (p.no file_r q e).0 r_equated)
     | inr e ↦ (let (list, w, k) = p.listed file_r q e in (e, k ∙ ap (λ l. laid l before) (r_only list w)))

@@ -9,16 +9,8 @@ ghost use Rattle.theory.specs.Decides.{Decides};
 ghost use Rattle.equating.specs.Entries.{entry_of, list_of};
 ghost use Rattle.equating.specs.Promise.{EquatePromise};
 
-use casefile::events::Verdict;
 use cells::{Table, is_variable};
-
-// The reply: a refusal with its number and place, "no", or the number of bytes written.
-#[derive(Clone, Copy)]
-pub enum Equated {
-    Refused(u8, usize),
-    No,
-    Listed(usize),
-}
+use refusals::{Fault, Refusal};
 
 // Is a or b none of n cells?
 fn outside(n: usize, a: usize, b: usize) -> bool
@@ -49,26 +41,29 @@ fn write_list(table: &Table, rep: &[u8; 129], n: usize, out: &mut [u8])
     }
 }
 
-// Two cells of a file, made equal: any bytes and any two numbers.
-pub fn equate(file: &[u8], a: usize, b: usize, out: &mut [u8]) -> Equated
+// Two cells of a file, made equal: any bytes and any two numbers. The reply is the number of bytes written, or None for "no".
+pub fn equate(file: &[u8], a: usize, b: usize, out: &mut [u8]) -> Result<Option<usize>, Refusal>
     ensures { EquatePromise file.now a b out.old result out.new }
 {
-    let read = casefile::read_case(file);
-    if let Verdict::Refused(number, place) = read.verdict {
-        return Equated::Refused(number, place);
-    }
-    let n = read.table.count;
+    let case = casefile::read_case(file)?;
+    let n = case.table.count;
     if outside(n, a, b) {
-        return Equated::Refused(5, n);
+        return Err(Refusal {
+            fault: Fault::NoSuchCell,
+            place: n,
+        });
     }
     if out.len() < n {
-        return Equated::Refused(9, n);
+        return Err(Refusal {
+            fault: Fault::ShortBuffer,
+            place: n,
+        });
     }
-    let rep = classes::start(&read.table.words, n);
-    let joined = classes::unify(&read.table.words, n, rep, a as u8, b as u8);
+    let rep = classes::start(&case.table.words, n);
+    let joined = classes::unify(&case.table.words, n, rep, a as u8, b as u8);
     if !joined.ok {
-        return Equated::No;
+        return Ok(None);
     }
-    write_list(&read.table.words, &joined.rep, n, out);
-    Equated::Listed(n)
+    write_list(&case.table.words, &joined.rep, n, out);
+    Ok(Some(n))
 }

@@ -1,4 +1,5 @@
 -- `building::build_marks` keeps its promise: each way out cites the law of its reply.
+use mathlib.Core.Path.{refl}
 use native.Mathlib.Omega.{arith}
 use borrow.Author.Rules.{rules}
 use Rattle.model.proofs.Accepted.{Bytes}
@@ -10,17 +11,17 @@ use Rattle.building.proofs.build_marks.Goals as goal
 pub open_heard-known-requires : goal.open_heard-known-requires
 open_heard-known-requires c =
     let every : Bytes c.args.file.now = λ i. omega (arith, c.type_inv.file i) in
-    let w = case_accepted c.args.file.now c.read_case-case.result c.read_case-case.ensures c.in_default.is in
+    let w = case_accepted c.args.file.now _ c.in_ok-case.ensures c.in_ok-case.case refl in
     record { table_words = case_words w every; run_words = case_events w }
 
 pub lay_marks-requires : goal.lay_marks-requires
 lay_marks-requires c =
     let every : Bytes c.args.file.now = λ i. omega (arith, c.type_inv.file i) in
-    let words = case_words (case_accepted c.args.file.now c.read_case-case.result c.read_case-case.ensures c.in_default.is) every in
+    let words = case_words (case_accepted c.args.file.now _ c.in_ok-case.ensures c.in_ok-case.case refl) every in
     record { n_bound = words.few; by_index = (kept_row words c.open_heard-known.ensures.classes.solved.kept).low; n_in_bounds = c.if-out-n.false }
 
 pub returns : goal.returns
 returns c =
     let every : Bytes c.args.file.now = λ i. omega (arith, c.type_inv.file i) in
-    let w = case_accepted c.args.file.now c.read_case-case.result c.read_case-case.ensures c.in_default.is in
+    let w = case_accepted c.args.file.now _ c.in_ok-case.ensures c.in_ok-case.case refl in
     answer_marks w (search rules) c.args.out.now every c.open_heard-known.ensures c.if-out-n.false c.lay_marks.ensures
