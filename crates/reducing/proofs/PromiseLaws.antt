@@ -7,6 +7,9 @@ use Prim.Native.Nat.{ℕ, ◌≤◌, ◌<◌}
 use native.Mathlib.Omega.{arith}
 use native.Mathlib.Decide.{dec_lt}
 use lib.ListN.{length}
+use Rattle.std.specs.Prelude.{Result, Ok}
+use Rattle.refusals.specs.declared.Refusal.{Refusal}
+use Rattle.refusals.specs.Refused.{Refused}
 use Rattle.model.specs.Message.{Message, Built}
 use Rattle.model.specs.Case.{File, table_of}
 use Rattle.model.specs.Format.{Reading, read_file, file_bytes, first_variable}
@@ -15,8 +18,6 @@ use Rattle.model.proofs.Settled.{both}
 use Rattle.model.proofs.Read.{clash}
 use Rattle.theory.proofs.Reduce.{reduces_one}
 use Rattle.theory.proofs.Reduced.{Reduction, reduced_one}
-use Rattle.reducing.specs.declared.Reduced.{Reduced}
-use Rattle.reducing.specs.declared.Reduced.TheVariants.{Refused, Reduced as Written}
 use Rattle.reducing.specs.Promise.{SameBuilt, ReducePromise}
 
 -- ---- the reduced file
@@ -86,18 +87,18 @@ module _ (file before : List ℕ) (f : File) (e : read_file file ≡ Reading.acc
       reduced = λ h b i t s. absurd (omega (arith, ap length (only i t)));
     }
 
-    pub promise_reduced : length (file_bytes g) ≤ length before → ReducePromise file before (Written (length (file_bytes g))) (laid (file_bytes g) before)
+    pub promise_reduced : length (file_bytes g) ≤ length before → ReducePromise file before (Ok (length (file_bytes g))) (laid (file_bytes g) before)
     promise_reduced l = record {
       refused = λ n p i. clash (cc);
       variable = λ h b i w. (let z = same i in let v = r.free in clash (cc));
       exists = λ h i w. exists_file i;
       short = λ h b i t s. absurd (omega (arith, ap length (only i t)));
-      reduced = λ h b i t s. (ap (λ x. Written (length x)) (only i t), ap (λ x. laid x before) (only i t));
+      reduced = λ h b i t s. (ap (λ x. Ok (length x)) (only i t), ap (λ x. laid x before) (only i t));
     }
 
 -- ---- the promise settles them
 
-module _ {file before : List ℕ} {r r' : Reduced} {after after' : List ℕ} (p : ReducePromise file before r after) (q : ReducePromise file before r' after') where
+module _ {file before : List ℕ} {r r' : Result ℕ Refusal} {after after' : List ℕ} (p : ReducePromise file before r after) (q : ReducePromise file before r' after') where
   settled_bytes : (f : File) (bytes : List ℕ) → read_file file ≡ Reading.accepted f → ReducedTo f bytes → (r ≡ r') × (after ≡ after')
   settled_bytes f bytes e t = elim (dec_lt (length before) (length bytes)) [
     | yes h ↦ both (p.short f bytes e t h) (q.short f bytes e t h)

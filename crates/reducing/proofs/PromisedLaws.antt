@@ -8,14 +8,14 @@ use native.Mathlib.Omega.{arith}
 use native.Mathlib.Decide.{dec_lt}
 use lib.ListN.{length, take, drop}
 use lib.Seq.{take-append_seam}
+use Rattle.std.specs.Prelude.{Result, Ok}
+use Rattle.refusals.specs.declared.Refusal.{Refusal}
 use Rattle.model.specs.Case.{File}
 use Rattle.model.specs.Format.{Reading, read_file, file_bytes, first_variable}
 use Rattle.model.specs.Replies.{HeardOf, ReducedTo, laid}
 use Rattle.model.proofs.Read.{clash}
 use Rattle.model.proofs.Variables.{no_variable}
 use Rattle.theory.proofs.Reduced.{reduced_solid, reduced_read, reduced_length, reduced_fits, reduced_one, one_reduced}
-use Rattle.reducing.specs.declared.Reduced.{Reduced}
-use Rattle.reducing.specs.declared.Reduced.TheVariants.{Reduced as Written}
 use Rattle.reducing.specs.Promise.{SameBuilt, ReducePromise}
 use Rattle.reducing.proofs.PromiseLaws.{ReducedBy, reduced_to, reduced_only}
 
@@ -25,7 +25,7 @@ record ReducedAs (f : File) (bytes : List ℕ) : Type 0 where
   pub by : ReducedBy f g
   pub written : file_bytes g ≡ bytes
 
-module _ {file before after : List ℕ} {answer : Reduced} (p : ReducePromise file before answer after) {f : File} (e : read_file file ≡ Reading.accepted f) where
+module _ {file before after : List ℕ} {answer : Result ℕ Refusal} (p : ReducePromise file before answer after) {f : File} (e : read_file file ≡ Reading.accepted f) where
   -- A file without variables is reduced.
   reduces : first_variable f.cells ≡ none → (g : File) × ReducedBy f g
   reduces v =
@@ -58,20 +58,17 @@ module _ {file before after : List ℕ} {answer : Reduced} (p : ReducePromise fi
         )
 
   -- ---- what is written
-  bytes_written : {n : ℕ} → answer ≡ Written n → (b : List ℕ) → ReducedTo f b → ReducedTo f (take n after) × (n ≡ length (take n after))
+  bytes_written : {n : ℕ} → answer ≡ Ok n → (b : List ℕ) → ReducedTo f b → ReducedTo f (take n after) × (n ≡ length (take n after))
   bytes_written {n} a b t = elim (dec_lt (length before) (length b)) [
     | yes h ↦ (let z = (p.short f b e t h).0 in clash (cc))
     | no h ↦ (
         let (i, j) = p.reduced f b e t (omega arith) in
-        let k : n ≡ length b = count (sym a ∙ i) in
+        let k : n ≡ length b = cc (a, i) in
         let l : take n after ≡ b = ap (λ m. take m after) k ∙ (ap (take (length b)) j ∙ take-append_seam b (drop (length b) before)) in
         (subst (ReducedTo f) (sym l) t, k ∙ sym (ap length l)))
   ]
-    where
-      count : {m l : ℕ} → Written m ≡ Written l → m ≡ l
-      count i = cc
 
-  pub promised_written : {n : ℕ} → answer ≡ Written n → ReducedTo f (take n after) × (n ≡ length (take n after))
+  pub promised_written : {n : ℕ} → answer ≡ Ok n → ReducedTo f (take n after) × (n ≡ length (take n after))
   promised_written {n} a = by_variable (first_variable f.cells) refl
     where
       by_variable : (o : Option ℕ) → first_variable f.cells ≡ o → ReducedTo f (take n after) × (n ≡ length (take n after))
@@ -79,7 +76,7 @@ module _ {file before after : List ℕ} {answer : Reduced} (p : ReducePromise fi
       by_variable none v = (let x = p.exists f e v in bytes_written a x.0 x.1)
 
 -- A reply with a reduced file is one to an accepted file.
-pub promised_file : {file before after : List ℕ} {answer : Reduced} → ReducePromise file before answer after → {n : ℕ} → answer ≡ Written n →
+pub promised_file : {file before after : List ℕ} {answer : Result ℕ Refusal} → ReducePromise file before answer after → {n : ℕ} → answer ≡ Ok n →
     (f : File) × (read_file file ≡ Reading.accepted f)
 promised_file {file = file} {answer = answer} p {n} a = by_reading (read_file file) refl
   where
@@ -98,12 +95,12 @@ module _ {f f' : File} {b b' : List ℕ} (r : ReducedAs f b) (r' : ReducedAs f' 
       one_reduced (HeardOf f) (HeardOf f') r.g r'.g r.by.learnt r'.by.learnt r.by.reduction r'.by.reduction r.by.same r'.by.same
       (r.written ∙ (i ∙ sym r'.written))
 
-pub promised_canonical : {file file' before before' after after' : List ℕ} {answer answer' : Reduced} → ReducePromise file before answer after → ReducePromise file' before' answer' after' →
+pub promised_canonical : {file file' before before' after after' : List ℕ} {answer answer' : Result ℕ Refusal} → ReducePromise file before answer after → ReducePromise file' before' answer' after' →
     {f f' : File} → read_file file ≡ Reading.accepted f → read_file file' ≡ Reading.accepted f' → {b b' : List ℕ} → ReducedTo f b → ReducedTo f' b' → SameBuilt f f' ↔ (b ≡ b')
 promised_canonical p q e e' t t' = (as_one (reduced_as p e t) (reduced_as q e' t'), one_as (reduced_as p e t) (reduced_as q e' t'))
 
-pub promised_again : {file before after before' after' b : List ℕ} {answer answer' : Reduced} {f : File} → ReducePromise file before answer after → read_file file ≡ Reading.accepted f →
-    ReducedTo f b → ReducePromise b before' answer' after' → length b ≤ length before' → (answer' ≡ Written (length b)) × (after' ≡ laid b before')
+pub promised_again : {file before after before' after' b : List ℕ} {answer answer' : Result ℕ Refusal} {f : File} → ReducePromise file before answer after → read_file file ≡ Reading.accepted f →
+    ReducedTo f b → ReducePromise b before' answer' after' → length b ≤ length before' → (answer' ≡ Ok (length b)) × (after' ≡ laid b before')
 promised_again {b = b} {f = f} p e t q l =
     let (g, read, free, same) = promised_accepted p e t in
     let (h, r) = reduces q read free in

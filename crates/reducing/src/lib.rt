@@ -16,16 +16,8 @@ ghost use Rattle.reducing.specs.Given.{Given, Solid};
 ghost use Rattle.reducing.specs.Plan.{planned, Sized, Plans, PlansRun};
 ghost use Rattle.reducing.specs.Promise.{ReducePromise};
 
-use casefile::Found;
-use casefile::events::Verdict;
 use cells::{Run, Table};
-
-// The reply: a refusal with its number and place, or how many bytes the reduced file takes.
-#[derive(Clone, Copy)]
-pub enum Reduced {
-    Refused(u8, usize),
-    Reduced(usize),
-}
+use refusals::{Fault, Refusal};
 
 // The reduced file before it is written: its table, marks on the cells that it learns, and how many cells and events it has.
 #[derive(Clone, Copy, Debug, PartialEq, Eq)]
@@ -78,16 +70,16 @@ fn write_plan(plan: &Plan, out: &mut [u8])
     write::write_events(plan, out);
 }
 
-// Reads a case file without variables and writes its reduced file at the front of `out`.
-pub fn reduce(file: &[u8], out: &mut [u8]) -> Reduced
+// Reads a case file without variables and writes its reduced file at the front of `out`: how many bytes it takes.
+pub fn reduce(file: &[u8], out: &mut [u8]) -> Result<usize, Refusal>
     ensures { ReducePromise file.now out.old result out.new }
 {
-    let case = casefile::read_case(file);
-    if let Verdict::Refused(number, place) = case.verdict {
-        return Reduced::Refused(number, place);
-    }
-    if let Found::At(at) = case.variable {
-        return Reduced::Refused(8, at);
+    let case = casefile::read_case(file)?;
+    if let Some(place) = case.variable {
+        return Err(Refusal {
+            fault: Fault::Variable,
+            place,
+        });
     }
     let plan = plan_run(
         &case.table.words,
@@ -97,8 +89,11 @@ pub fn reduce(file: &[u8], out: &mut [u8]) -> Reduced
     );
     let length = needed(&plan);
     if out.len() < length {
-        return Reduced::Refused(9, length);
+        return Err(Refusal {
+            fault: Fault::ShortBuffer,
+            place: length,
+        });
     }
     write_plan(&plan, out);
-    Reduced::Reduced(length)
+    Ok(length)
 }
