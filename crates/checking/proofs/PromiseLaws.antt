@@ -14,7 +14,6 @@ use Rattle.model.proofs.Finite.{eq?, least}
 use Rattle.model.proofs.Read.{clash, var?}
 use Rattle.model.specs.Replies.{FormOf, RightOf}
 use Rattle.refusals.specs.declared.Refusal.{Refusal}
-use Rattle.refusals.specs.Numbers.{number_of}
 use Rattle.refusals.specs.Refused.{Refused}
 use Rattle.checking.specs.Promise.{EntryOf, CheckPromise}
 
@@ -33,22 +32,6 @@ refused_not e b i = clash (cc)
 
 right_wrong : Path Reply (Ok true) (Ok false) → ⊥
 right_wrong e = clash (cc)
-
--- The file is refused.
-pub promise_refused : (file list : List ℕ) (r : Refusal) → read_file file ≡ Reading.refused (number_of r.fault) r.place →
-    ((n p : ℕ) → read_file file ≡ Reading.refused n p → Path Reply (Err r) (Refused n p)) → CheckPromise file list (Err r)
-promise_refused file list r e told = record {
-  refused = told;
-  size = λ f i. absurd (off f i);
-  form = λ f i. absurd (off f i);
-  right = λ f i. absurd (off f i);
-  wrong = λ f i. absurd (off f i);
-  right_only = λ f i. absurd (off f i);
-  wrong_only = λ f i. absurd (off f i);
-}
-  where
-    off : (f : File) → read_file file ≡ Reading.accepted f → ⊥
-    off f i = not_both (read_file file) _ _ f e i
 
 module _ (file list : List ℕ) (f : File) (e : read_file file ≡ Reading.accepted f) where
   on : (number place : ℕ) → read_file file ≡ Reading.refused number place → ⊥

@@ -1,19 +1,9 @@
--- Each reply by its law: the refusal of the file, the first entry of bad form, and whether the list is right.
+-- Each reply by its law: the first entry of bad form, and whether the list is right.
 use native.Mathlib.Omega.{arith}
-use mathlib.Core.Path.{refl, sym, ◌∙◌}
-use Rattle.casefile.proofs.CaseFile.{CaseFile, case_refused, case_told, case_accepted}
-use Rattle.std.proofs.lemmas.Result.{err_from_is_err_and}
-use Rattle.checking.proofs.PromiseLaws.{promise_refused}
+use Rattle.casefile.proofs.CaseFile.{CaseFile, case_accepted}
 use Rattle.checking.proofs.CaseLaws.{judged_form, judged_words, judged_right}
 use Rattle.checking.proofs.check.Goals as goal
 use Rattle.checking.proofs.check.Goals.{In_ok-case}
-
-pub returns-in_err-case : goal.returns-in_err-case
-returns-in_err-case c =
-    let p = err_from_is_err_and c.from_residual.result c.from_residual.ensures.1 in
-    let file = c.args.file.now in
-    let e = sym c.read_case.ensures ∙ c.in_err-case.was in
-    rw (p.1, p.2) (promise_refused file c.args.list.now c.in_err-case.field-0.0 (case_refused file _ refl c.in_err-case.field-0.0 e) (case_told file c.in_err-case.field-0.0 e))
 
 accepted : (c : In_ok-case) → CaseFile c.args.file.now c.in_ok-case.case
 accepted c = case_accepted c.args.file.now c.read_case.result c.read_case.ensures c.in_ok-case.case c.in_ok-case.was
