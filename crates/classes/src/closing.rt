@@ -30,7 +30,7 @@ fn bind(table: &Table, rep: &mut Row, c: usize) -> Result<bool, Clash>
     requires kept { Kept table.now.count (table_in table.now.words) rep.old }
     ensures { Bound table.now.count (table_in table.now.words) rep.old c rep.new result }
 {
-    match differ(table, &*rep, c) {
+    match differ(table, rep, c) {
         Diff::Same => Ok(false),
         Diff::Clash => Err(Clash),
         Diff::Parts(x, y) => {
