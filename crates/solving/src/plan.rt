@@ -14,7 +14,7 @@ use cells::{Event, Run, Table, aim_of, event_at};
 use classes::clash::clash;
 use classes::class_of;
 use granting::grants::{Grant, granted};
-use granting::line::line;
+use granting::line::{line, live_row};
 use knowledge::{Marks, cell, has, learn, open_known, own_marks};
 use wants::bares;
 use wants::sets::wanted;
@@ -46,31 +46,18 @@ struct Stage {
     pub best: Option<Choice>,
 }
 
-// A guide: the number of pairs in the row of c that do not clash at once.
-fn live_row(table: &Table, rep: &[u8; 129], want: &[u8; 129], bare: &[u8; 129], c: usize) -> u8
-    requires kept { Kept table.now.count (table_in table.now.words) rep.now }
-    requires c_lt_n { c < table.now.count }
-{
-    let n = table.count;
-    (0..n)
-        .filter(|d| {
-            pairing(&table.words, rep, want, bare, c, *d)
-                && !clash(table, rep, c as u8, *d as u8, 3)
-        })
-        .count() as u8
-}
-
-// A guide: the number of such pairs, up to 254.
+// A guide: the number of pairs of a wanted cell and a bare one that do not clash at once, up to 254.
 fn live(table: &Table, rep: &[u8; 129], want: &[u8; 129], bare: &[u8; 129]) -> u8
     requires kept { Kept table.now.count (table_in table.now.words) rep.now }
 {
     let n = table.count;
-    let mut k: u8 = 0;
+    let mut k = 0;
     for c in 0..n {
         if want[c] == 1 {
-            k = k
-                .saturating_add(live_row(table, rep, want, bare, c))
-                .min(254);
+            k = live_row(n, k, |d| {
+                pairing(&table.words, rep, want, bare, c, d)
+                    && !clash(table, rep, c as u8, d as u8, 3)
+            });
         }
     }
     k

@@ -5,11 +5,11 @@ ghost use Rattle.model.specs.Format.{Kind, mark, cell_bytes, event_bytes, joined
 ghost use Rattle.model.specs.Stored.{table_in};
 ghost use Rattle.typing.specs.File.{up_to, events_in};
 
-use cells::{Run, Table, cell_at, event_at};
+use cells::{Run, Words, cell_at, event_at};
 use records::{put_cell, put_event, put_mark, size_of};
 
 // How many bytes the records of so many cells take.
-pub fn cells_size(table: &Table, n: usize) -> usize
+pub fn cells_size(table: &Words, n: usize) -> usize
     requires { n ≤ 128 }
     ensures { (result ≡ length (joined cell_bytes (up_to (table_in table.now) n))) × (result ≤ 4 * n) }
 {
@@ -21,7 +21,7 @@ pub fn cells_size(table: &Table, n: usize) -> usize
 }
 
 // The records of the cells, from the front of `out`.
-pub fn put_cells(out: &mut [u8], table: &Table, n: usize)
+pub fn put_cells(out: &mut [u8], table: &Words, n: usize)
     requires { (n ≤ 128) × (length (joined cell_bytes (up_to (table_in table.now) n)) ≤ length out.old) }
     ensures { out.new ≡ sets out.old 0 (joined cell_bytes (up_to (table_in table.now) n)) }
 {

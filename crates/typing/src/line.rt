@@ -8,7 +8,7 @@ ghost use Rattle.typing.specs.Lines.{Matched, WordRead, event_of, RestRead, Line
 use super::message::{has, list, past};
 use super::number::wrong;
 use super::store::Store;
-use cells::{Event, Run, Table, event_word, is_variable};
+use cells::{Event, Run, Words, event_word, is_variable};
 use refusals::{Fault, Refusal};
 
 // What the lines so far say: their cells and their events.
@@ -89,7 +89,7 @@ fn find_line(text: &[u8], at: usize, store: &mut Store) -> Result<(usize, Event)
 }
 
 // Is one of the cells from `from` on a variable?
-fn new_variable(words: &Table, from: usize, count: usize) -> bool
+fn new_variable(words: &Words, from: usize, count: usize) -> bool
     ensures { Decides result ((c : ℕ) × (from ≤ c) × (c < count) × (table_in words.now c ≡ VA)) }
 {
     (from..count).any(|c| is_variable(words, c))

@@ -2,12 +2,12 @@
 ghost use Rattle.std.specs.Prelude.{◌≡◌, ◌≤◌};
 ghost use Rattle.typing.specs.Store.{FoundAt, put, added, Enters, no_items, with_item, PairsUp};
 
-use cells::{Cell, Table, word_of};
+use cells::{Cell, Words, word_of};
 
 // The cells so far, each as the word of its cell, a variable's with its number added: equal messages have equal words. `full` says that there are more than 128; then the words say nothing.
 #[derive(Clone, Copy)]
 pub struct Store {
-    pub words: Table,
+    pub words: Words,
     pub count: usize,
     pub full: bool,
 }
@@ -21,7 +21,7 @@ pub struct Items {
 }
 
 // The first place of the word among so many.
-fn find(words: &Table, count: usize, word: u32) -> Option<usize>
+fn find(words: &Words, count: usize, word: u32) -> Option<usize>
     ensures { FoundAt words.now count word result }
 {
     words.iter().take(count).position(|w| *w == word)

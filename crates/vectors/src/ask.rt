@@ -1,24 +1,17 @@
 // A question for each letter. `head` is the case from its letter to the file's length, `file` the file, or the typed text;
 // a reply is laid into `out`, which is longer than any room that a case asks for.
 use crate::print::{print, print_hex, print_list, print_marks, print_number, print_refused};
-use building::Marked;
-use casefile::Found;
-use casefile::events::Verdict;
-use checking::Judged;
-use equating::Equated;
-use reducing::Reduced;
-use running::Solved;
 use std::io;
 use std::io::Write;
 
 // The byte at `i`, or 0 where there is none.
 fn byte(s: &[u8], i: usize) -> u8 {
-    if i < s.len() { s[i] } else { 0 }
+    s.get(i).copied().unwrap_or(0)
 }
 
 // The number that two bytes make, the high one first.
 pub fn number_of(high: u8, low: u8) -> usize {
-    high as usize * 256 + low as usize
+    usize::from(u16::from_be_bytes([high, low]))
 }
 
 // An accepted file: how many cells and events, and where the first variable stands.
@@ -26,7 +19,7 @@ fn print_accepted<W: Write>(
     to: &mut W,
     cells: usize,
     events: usize,
-    variable: Found,
+    variable: Option<usize>,
 ) -> io::Result<()> {
     print(to, b"accepted ")?;
     print_number(to, cells)?;
@@ -34,20 +27,17 @@ fn print_accepted<W: Write>(
     print_number(to, events)?;
     print(to, b" ")?;
     match variable {
-        Found::At(place) => print_number(to, place)?,
-        Found::Nowhere => print(to, b"-")?,
+        Some(place) => print_number(to, place)?,
+        None => print(to, b"-")?,
     }
     print(to, b"\n")
 }
 
 // f: is the file accepted?
 fn ask_file<W: Write>(to: &mut W, file: &[u8]) -> io::Result<()> {
-    let case = casefile::read_case(file);
-    let verdict = case.verdict;
-    let variable = case.variable;
-    match verdict {
-        Verdict::Accepted => print_accepted(to, case.table.count, case.run.count, variable),
-        Verdict::Refused(number, place) => print_refused(to, number, place),
+    match casefile::read_case(file) {
+        Err(refusal) => print_refused(to, refusal),
+        Ok(case) => print_accepted(to, case.table.count, case.run.count, case.variable),
     }
 }
 
@@ -56,10 +46,9 @@ fn ask_marks<W: Write>(to: &mut W, room: usize, file: &[u8], out: &mut [u8]) -> 
     if room > out.len() {
         return Ok(());
     }
-    let reply = building::build_marks(file, &mut out[..room]);
-    match reply {
-        Marked::Refused(number, place) => print_refused(to, number, place),
-        Marked::Marks(n) => {
+    match building::build_marks(file, &mut out[..room]) {
+        Err(refusal) => print_refused(to, refusal),
+        Ok(n) => {
             print(to, b"marks ")?;
             print_marks(to, out, n)?;
             print(to, b"\n")
@@ -72,10 +61,9 @@ fn ask_reduced<W: Write>(to: &mut W, room: usize, file: &[u8], out: &mut [u8]) -
     if room > out.len() {
         return Ok(());
     }
-    let reply = reducing::reduce(file, &mut out[..room]);
-    match reply {
-        Reduced::Refused(number, place) => print_refused(to, number, place),
-        Reduced::Reduced(n) => {
+    match reducing::reduce(file, &mut out[..room]) {
+        Err(refusal) => print_refused(to, refusal),
+        Ok(n) => {
             print(to, b"reduced ")?;
             print_hex(to, out, n)?;
             print(to, b"\n")
@@ -89,7 +77,7 @@ fn ask_text<W: Write>(to: &mut W, room: usize, text: &[u8], out: &mut [u8]) -> i
         return Ok(());
     }
     match typing::read_text(text, &mut out[..room]) {
-        Err(refusal) => write!(to, "{refusal}\n"),
+        Err(refusal) => print_refused(to, refusal),
         Ok(n) => {
             print(to, b"typed ")?;
             print_hex(to, out, n)?;
@@ -110,11 +98,10 @@ fn ask_equated<W: Write>(
     if room > out.len() {
         return Ok(());
     }
-    let reply = equating::equate(file, a as usize, b as usize, &mut out[..room]);
-    match reply {
-        Equated::Refused(number, place) => print_refused(to, number, place),
-        Equated::No => print(to, b"no\n"),
-        Equated::Listed(n) => {
+    match equating::equate(file, usize::from(a), usize::from(b), &mut out[..room]) {
+        Err(refusal) => print_refused(to, refusal),
+        Ok(None) => print(to, b"no\n"),
+        Ok(Some(n)) => {
             print(to, b"yes")?;
             print_list(to, out, n)?;
             print(to, b"\n")
@@ -127,11 +114,10 @@ fn ask_run<W: Write>(to: &mut W, room: usize, file: &[u8], out: &mut [u8]) -> io
     if room > out.len() {
         return Ok(());
     }
-    let reply = running::run(file, &mut out[..room]);
-    match reply {
-        Solved::Refused(number, place) => print_refused(to, number, place),
-        Solved::No => print(to, b"no\n"),
-        Solved::Yes(n) => print_run(to, file, out, n),
+    match running::run(file, &mut out[..room]) {
+        Err(refusal) => print_refused(to, refusal),
+        Ok(None) => print(to, b"no\n"),
+        Ok(Some(n)) => print_run(to, file, out, n),
     }
 }
 
@@ -140,21 +126,19 @@ fn print_run<W: Write>(to: &mut W, file: &[u8], out: &[u8], n: usize) -> io::Res
     if n > out.len() {
         return Ok(());
     }
-    let judged = checking::check(file, &out[..n]);
-    match judged {
-        Judged::Right => print(to, b"yes\n"),
-        Judged::Wrong => print(to, b"yes, and the list is wrong\n"),
-        Judged::Refused(number, place) => print(to, b"yes, and the list is in bad form\n"),
+    match checking::check(file, &out[..n]) {
+        Ok(true) => print(to, b"yes\n"),
+        Ok(false) => print(to, b"yes, and the list is wrong\n"),
+        Err(_) => print(to, b"yes, and the list is in bad form\n"),
     }
 }
 
 // l: the list check
 fn ask_list<W: Write>(to: &mut W, list: &[u8], file: &[u8]) -> io::Result<()> {
-    let judged = checking::check(file, list);
-    match judged {
-        Judged::Right => print(to, b"right\n"),
-        Judged::Wrong => print(to, b"wrong\n"),
-        Judged::Refused(number, place) => print_refused(to, number, place),
+    match checking::check(file, list) {
+        Ok(true) => print(to, b"right\n"),
+        Ok(false) => print(to, b"wrong\n"),
+        Err(refusal) => print_refused(to, refusal),
     }
 }
 
@@ -182,7 +166,7 @@ pub fn ask<W: Write>(to: &mut W, head: &[u8], file: &[u8]) -> io::Result<()> {
             to,
             byte(head, 1),
             byte(head, 2),
-            byte(head, 3) as usize,
+            usize::from(byte(head, 3)),
             file,
             &mut out,
         ),

@@ -1,4 +1,5 @@
 // What the lines are made of: text, numbers, and the bytes of a reply.
+use refusals::Refusal;
 use std::io;
 use std::io::Write;
 
@@ -13,8 +14,8 @@ pub fn print_number<W: Write>(to: &mut W, n: usize) -> io::Result<()> {
 }
 
 // A refusal with its number and place, as a line.
-pub fn print_refused<W: Write>(to: &mut W, number: u8, place: usize) -> io::Result<()> {
-    write!(to, "refused {number} at {place}\n")
+pub fn print_refused<W: Write>(to: &mut W, refusal: Refusal) -> io::Result<()> {
+    write!(to, "{refusal}\n")
 }
 
 // The first n bytes, each as two digits.
