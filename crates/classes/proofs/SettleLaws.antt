@@ -7,6 +7,9 @@ use mathlib.Core.Logic.{◌↔◌, inl, inr}
 use Prim.Native.Nat.{ℕ, ◌+◌, ◌-◌, ◌≤◌, ◌<◌}
 use native.Mathlib.Omega.{arith}
 use native.Mathlib.Decide.{dec_lt}
+use Rattle.std.specs.Prelude.{Some, None, Result, Ok, Err}
+use Rattle.std.specs.Result.{result_ok}
+use Rattle.std.proofs.lemmas.Option.{same_Some, none-some}
 use Rattle.model.specs.Message.{Message}
 use Rattle.model.specs.Case.{Cell, AT, VA, Table, Reads, Part, in_arg, in_left, in_right}
 use Rattle.model.specs.Stored.{table_in}
@@ -17,9 +20,10 @@ use Rattle.theory.proofs.Classes.{forced}
 use Rattle.theory.proofs.Rows.{rows_part}
 use Rattle.classes.specs.declared.alike.Diff.{Diff}
 use Rattle.classes.specs.declared.alike.Diff.TheVariants.{Same, Clash, Parts}
+use Rattle.classes.specs.declared.closing.Clash as closing
 use Rattle.classes.specs.Kept.{Kept, class_count, Unmet, Joined}
 use Rattle.classes.specs.Differ.{Facing, args, lefts, rights, Told}
-use Rattle.classes.specs.Settle.{Shut, Asks, Moved}
+use Rattle.classes.specs.Settle.{Shut, Asks, Moved, BindsAll}
 use Rattle.classes.proofs.DifferLaws.{facing_same, alike_any}
 
 facing_parts : {k k' : Cell} {x y : ℕ} → Facing k k' x y → Part k x × Part k' y
@@ -110,6 +114,16 @@ module _ {n : ℕ} {T : Table} {rep out : List ℕ} {changed : Bool} {c : ℕ} (
             | inr ne ↦ t.shut i x (omega arith) l
           ];
         }
+
+-- What a sweep says where `ok` of its reply is known.
+module _ (n : ℕ) (T : Table) (rep : List ℕ) (upto : ℕ) (out : List ℕ) where
+  pub binds_some : (r : Result Bool closing.Clash) (changed : Bool) → BindsAll n T rep upto out r → Some changed ≡ result_ok r → BindsAll n T rep upto out (Ok changed)
+  binds_some (Ok x) changed b e = rw (same_Some changed x e) b
+  binds_some (Err e) changed b i = absurd (none-some changed (sym i))
+
+  pub binds_none : (r : Result Bool closing.Clash) → BindsAll n T rep upto out r → None ≡ result_ok r → Unmet T (class_at rep)
+  binds_none (Ok x) b e = absurd (none-some x e)
+  binds_none (Err e) b i = b
 
 -- Cells that ask for nothing, up to the first beyond the table's: the classes are closed.
 module _ {n : ℕ} {words rep : List ℕ} (w : TableWords n words) (K : Kept n (table_in words) rep)

@@ -13,7 +13,7 @@ use Rattle.model.proofs.Read.{strong, var?}
 use Rattle.theory.specs.Cells.{class_at}
 use Rattle.theory.specs.Classes.{Alike, Sat}
 use Rattle.theory.proofs.Classes.{alike_parts, alike_solid}
-use Rattle.classes.specs.declared.Settled.{Settled}
+use Rattle.std.specs.Prelude.{Option, Some, None, is_some}
 use Rattle.classes.specs.Kept.{Finite, Joined}
 use Rattle.classes.specs.Twins.{First, Start}
 use Rattle.classes.specs.Settle.{Unifies}
@@ -87,17 +87,14 @@ join_settled n T rep a b out out' w w' c d e =
 
 -- ---- `unify`: whether there are messages
 module _ (n : ℕ) (T : Table) (rep : List ℕ) (a b : ℕ) where
-  both : (r r' : Settled) → Unifies n T rep a b r → Unifies n T rep a b r' → r.ok ≡ true → r'.ok ≡ false → ⊥
-  both r r' w w' y z =
-      let (m, g, reads, sat) = solved_met n T r.rep (w.solved y) (λ _. atom 0) in
-      let (s, e) = (w.sat y m reads).1 sat in
-      w'.no z m reads s e
+  both : (out : List ℕ) → Unifies n T rep a b (Some out) → Unifies n T rep a b None → ⊥
+  both out w never =
+      let (m, g, reads, sat) = solved_met n T out w.solved (λ _. atom 0) in
+      let (s, e) = (w.sat m reads).1 sat in
+      never m reads s e
 
-  pub unify_settled : (r r' : Settled) → Unifies n T rep a b r → Unifies n T rep a b r' → r.ok ≡ r'.ok
-  unify_settled r r' w w' = go r.ok r'.ok refl refl
-    where
-      go : (x y : Bool) → r.ok ≡ x → r'.ok ≡ y → x ≡ y
-      go true true i j = refl
-      go true false i j = absurd (both r r' w w' i j)
-      go false true i j = absurd (both r' r w' w j i)
-      go false false i j = refl
+  pub unify_settled : (r r' : Option (List ℕ)) → Unifies n T rep a b r → Unifies n T rep a b r' → is_some r ≡ is_some r'
+  unify_settled (Some out) (Some out') w w' = refl
+  unify_settled (Some out) None w w' = absurd (both out w w')
+  unify_settled None (Some out') w w' = absurd (both out' w' w)
+  unify_settled None None w w' = refl

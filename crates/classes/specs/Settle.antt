@@ -1,6 +1,6 @@
 -- Closing the classes: joins that every message of the cells asks for, until nothing is left to join.
--- Shut: a cell is alike the one that stands for its class; Asks: what one comparison answers; Moved: what joins keep; Bound, BindsAll, Settles, Unifies: the functions.
-use Rattle.std.specs.Prelude.{◌≡◌, Bool, true, false, List, ◌↔◌, ℕ, ◌≤◌, ◌<◌, Result, Ok, Err}
+-- Shut: a cell is alike the one that stands for its class; Asks: what one comparison answers; Moved: what joins keep; Settled, Unified: what is found; Bound, BindsAll, Settles, Unifies: the functions.
+use Rattle.std.specs.Prelude.{◌≡◌, Bool, true, false, List, ◌↔◌, ℕ, ◌≤◌, ◌<◌, Option, Some, None, Result, Ok, Err}
 use Rattle.model.specs.Message.{Message}
 use Rattle.model.specs.Case.{VA, Table, Reads}
 use Rattle.theory.specs.Cells.{class_at}
@@ -8,7 +8,6 @@ use Rattle.theory.specs.Classes.{Alike, Closed, Sat}
 use Rattle.classes.specs.declared.alike.Diff.{Diff}
 use Rattle.classes.specs.declared.alike.Diff.TheVariants as diff
 use Rattle.classes.specs.declared.closing.Clash.{Clash}
-use Rattle.classes.specs.declared.Settled.{Settled}
 use Rattle.classes.specs.Kept.{Kept, class_count, Unmet, Never, Solved}
 
 -- The cell c, if it is no variable, is alike the one that stands for its class.
@@ -41,18 +40,26 @@ abbrev pub BindsAll : ℕ → Table → List ℕ → ℕ → List ℕ → Result
 BindsAll n T rep upto out (Ok changed) = Moved T (Kept n T) rep out changed × (changed ≡ false → (c : ℕ) → c < upto → Shut T (class_at rep) c)
 BindsAll n T rep upto out (Err e) = Unmet T (class_at rep)
 
--- Nothing is left to join, and the same messages satisfy the classes; or none do.
-pub record Settles (n : ℕ) (T : Table) (rep : List ℕ) (r : Settled) : Type 0 where
-  pub no : r.ok ≡ false → Unmet T (class_at rep)
-  pub kept : r.ok ≡ true → Kept n T r.rep
-  pub closed : r.ok ≡ true → Closed T (class_at r.rep)
-  pub sat : r.ok ≡ true → (m : ℕ → Message) → Reads T m m → Sat (class_at rep) m ↔ Sat (class_at r.rep) m
-  pub most : r.ok ≡ true → class_count r.rep ≤ class_count rep
+-- Classes in which nothing is left to join, and which the same messages of the cells satisfy as rep.
+pub record Settled (n : ℕ) (T : Table) (rep out : List ℕ) : Type 0 where
+  pub kept : Kept n T out
+  pub closed : Closed T (class_at out)
+  pub sat : (m : ℕ → Message) → Reads T m m → Sat (class_at rep) m ↔ Sat (class_at out) m
+  pub most : class_count out ≤ class_count rep
 
--- Solved classes that exactly those messages satisfy that satisfy rep and make a and b equal; or there are none.
-pub record Unifies (n : ℕ) (T : Table) (rep : List ℕ) (a b : ℕ) (r : Settled) : Type 0 where
-  pub no : r.ok ≡ false → Never T (class_at rep) a b
-  pub solved : r.ok ≡ true → Solved n T r.rep
-  pub sat : r.ok ≡ true → (m : ℕ → Message) → Reads T m m → (Sat (class_at rep) m × (m a ≡ m b)) ↔ Sat (class_at r.rep) m
-  pub most : r.ok ≡ true → class_count r.rep ≤ class_count rep
-  pub fewer : r.ok ≡ true → (class_at rep a ≡ class_at rep b → ⊥) → class_count r.rep < class_count rep
+-- Settled classes; none, if no messages of the cells satisfy rep.
+abbrev pub Settles : ℕ → Table → List ℕ → Option (List ℕ) → Type 0
+Settles n T rep (Some out) = Settled n T rep out
+Settles n T rep None = Unmet T (class_at rep)
+
+-- Solved classes that exactly those messages satisfy that satisfy rep and make a and b equal.
+pub record Unified (n : ℕ) (T : Table) (rep : List ℕ) (a b : ℕ) (out : List ℕ) : Type 0 where
+  pub solved : Solved n T out
+  pub sat : (m : ℕ → Message) → Reads T m m → (Sat (class_at rep) m × (m a ≡ m b)) ↔ Sat (class_at out) m
+  pub most : class_count out ≤ class_count rep
+  pub fewer : (class_at rep a ≡ class_at rep b → ⊥) → class_count out < class_count rep
+
+-- Unified classes; none, if no messages of the cells that satisfy rep make a and b equal.
+abbrev pub Unifies : ℕ → Table → List ℕ → ℕ → ℕ → Option (List ℕ) → Type 0
+Unifies n T rep a b (Some out) = Unified n T rep a b out
+Unifies n T rep a b None = Never T (class_at rep) a b

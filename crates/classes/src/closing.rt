@@ -4,9 +4,9 @@ ghost use Rattle.model.specs.Stored.{table_in};
 ghost use Rattle.classes.specs.Kept.{Kept};
 ghost use Rattle.classes.specs.Settle.{Asks, Bound, BindsAll, Settles};
 
+use super::Row;
 use super::alike::{Diff, class_of, compare};
 use super::joins::join;
-use super::{Row, Settled};
 use cells::{Table, is_variable};
 
 // No messages of the cells satisfy the classes.
@@ -30,7 +30,7 @@ fn bind(table: &Table, rep: &mut Row, c: usize) -> Result<bool, Clash>
     requires kept { Kept table.now.count (table_in table.now.words) rep.old }
     ensures { Bound table.now.count (table_in table.now.words) rep.old c rep.new result }
 {
-    match differ(table, &*rep, c) {
+    match differ(table, rep, c) {
         Diff::Same => Ok(false),
         Diff::Clash => Err(Clash),
         Diff::Parts(x, y) => {
@@ -59,17 +59,12 @@ fn bind_all(table: &Table, rep: &mut Row) -> Result<bool, Clash>
     Ok(changed)
 }
 
-// Joins until nothing is left to join.
-pub fn settle(table: &Table, start: Row) -> Settled
+// Joins until nothing is left to join; none if no messages of the cells satisfy the classes.
+pub fn settle(table: &Table, start: Row) -> Option<Row>
     requires kept { Kept table.now.count (table_in table.now.words) start }
     ensures { Settles table.now.count (table_in table.now.words) start result }
 {
     let mut rep = start;
-    loop {
-        match bind_all(table, &mut rep) {
-            Ok(true) => {}
-            Ok(false) => return Settled { ok: true, rep },
-            Err(Clash) => return Settled { ok: false, rep },
-        }
-    }
+    while bind_all(table, &mut rep).ok()? {}
+    Some(rep)
 }

@@ -25,22 +25,12 @@ pub use twins::start;
 // A class array: for each cell the one that stands for its class. A row of marks or links is of the same form.
 pub type Row = [u8; 129];
 
-// The classes with nothing left to join, or that there is no way to join.
-#[derive(Clone, Copy)]
-pub struct Settled {
-    pub ok: bool,
-    pub rep: Row,
-}
-
-// The classes of a and b in one, with all that this asks for; not ok if no messages of the cells allow it.
-pub fn unify(table: &Table, rep: Row, a: u8, b: u8) -> Settled
+// The classes of a and b in one, with all that this asks for; none if no messages of the cells allow it.
+pub fn unify(table: &Table, rep: Row, a: u8, b: u8) -> Option<Row>
     requires kept { Kept table.now.count (table_in table.now.words) rep }
     requires a_lt_n { (a < table.now.count) × (b < table.now.count) }
     ensures { Unifies table.now.count (table_in table.now.words) rep a b result }
 {
-    let s = settle(table, join(table, rep, a, b));
-    Settled {
-        ok: s.ok && acyclic(table, s.rep),
-        rep: s.rep,
-    }
+    let out = settle(table, join(table, rep, a, b))?;
+    acyclic(table, out).then_some(out)
 }

@@ -47,7 +47,7 @@ fn peel(table: &Table, rep: &Row, done: &mut Row) -> bool
     let n = table.count;
     let mut changed = false;
     for c in 0..n + 1 {
-        if fresh(&table.words, rep, &*done, c as u8) {
+        if fresh(&table.words, rep, done, c as u8) {
             done[c] = 1;
             changed = true;
         }

@@ -53,7 +53,7 @@ fn lowest(table: &Table, rep: &Row, words: &mut [u32; 129], c: u8) -> u8
         return rep[n];
     }
     words[i] = class_word(rep, c, cell_at(&table.words, i));
-    first_same(&*words, c)
+    first_same(words, c)
 }
 
 // The first class array: cells that show equal trees are one class, upwards from the lowest cell.

@@ -87,12 +87,12 @@ fn meet(table: &Table, rep: &mut Row, tops: &mut [u8; 256], links: &mut Row, c: 
 {
     let i = usize::from(c);
     let k = cell_at(&table.words, i);
-    if !has_parts(k) || class_of(&*rep, i) != i {
+    if !has_parts(k) || class_of(rep, i) != i {
         return false;
     }
-    let h = usize::from(key_of(&*rep, k));
+    let h = usize::from(key_of(rep, k));
     let top = tops[h];
-    let t = fellow(table, &*rep, &*links, top, c);
+    let t = fellow(table, rep, links, top, c);
     if t == c {
         links[i] = top;
         tops[h] = c + 1;

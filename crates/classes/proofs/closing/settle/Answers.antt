@@ -1,38 +1,28 @@
 -- Each sweep that changes something lowers the number of classes; one that changes nothing leaves closed classes.
 use mathlib.Core.Path.{sym, subst}
-use mathlib.Core.Bool.{true≢false, false≢true}
 use mathlib.Core.List.{List}
 use Prim.Native.Nat.{ℕ}
 use Rattle.model.specs.Stored.{table_in}
 use Rattle.theory.specs.Cells.{class_at}
 use Rattle.theory.specs.Classes.{Closed}
-use Rattle.classes.proofs.SettleLaws.{stage_more, shut_closed}
+use Rattle.classes.proofs.SettleLaws.{stage_more, shut_closed, binds_some, binds_none}
 use Rattle.classes.proofs.closing.settle.Goals as goal
 
-pub loop-rep-preserved : goal.loop-rep-preserved
-loop-rep-preserved c = stage_more c.loop-rep.invariant c.in-Ok-true.ensures.0
+pub returns-in_err-ok : goal.returns-in_err-ok
+returns-in_err-ok c = rw c.from_residual.ensures (λ m mr s. binds_none _ _ _ _ _ c.bind_all.result c.bind_all.ensures c.in_err-ok.ensures.value m mr ((c.loop.invariant.sat m mr).0 s))
 
-pub returns-in-Ok-false : goal.returns-in-Ok-false
-returns-in-Ok-false c =
+pub loop-preserved : goal.loop-preserved
+loop-preserved c = stage_more c.loop.invariant (binds_some _ _ _ _ _ c.bind_all.result _ c.bind_all.ensures c.in_ok-ok.ensures.value).0
+
+pub returns : goal.returns
+returns c =
     let T = table_in c.args.table.now.words in
-    let (moved, shut) = c.in-Ok-false.ensures in
-    let quiet = c.in-Ok-false.field-0-test in
-    let stage = stage_more c.loop-rep.invariant moved in
+    let (moved, shut) = binds_some _ _ _ _ _ c.bind_all.result _ c.bind_all.ensures c.in_ok-ok.ensures.value in
+    let stage = stage_more c.loop.invariant moved in
     record {
-      no = λ e. absurd (true≢false e);
-      kept = λ _. stage.holds;
-      closed = λ _. subst (λ (k : List ℕ). Closed T (class_at k)) (sym (moved.still quiet))
-          (shut_closed c.args.table.now.formed c.loop-rep.invariant.holds (shut quiet));
-      sat = λ _. stage.sat;
-      most = λ _. stage.most;
-    }
-
-pub returns-in-Err : goal.returns-in-Err
-returns-in-Err c =
-    record {
-      no = λ _ m mr s. c.in-Err.ensures m mr ((c.loop-rep.invariant.sat m mr).0 s);
-      kept = λ e. absurd (false≢true e);
-      closed = λ e. absurd (false≢true e);
-      sat = λ e. absurd (false≢true e);
-      most = λ e. absurd (false≢true e);
+      kept = stage.holds;
+      closed = subst (λ (k : List ℕ). Closed T (class_at k)) (sym (moved.still c.if-branch.false))
+          (shut_closed c.args.table.now.formed c.loop.invariant.holds (shut c.if-branch.false));
+      sat = stage.sat;
+      most = stage.most;
     }

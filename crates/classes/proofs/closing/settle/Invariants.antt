@@ -4,8 +4,8 @@ use Rattle.classes.specs.Kept.{Kept, class_count}
 use Rattle.classes.proofs.SettleLaws.{Stage}
 use Rattle.classes.proofs.closing.settle.Given as goal
 
-abbrev pub invariant-loop-rep : goal.invariant-loop-rep
-invariant-loop-rep l = Stage (table_in l.table.words) (Kept l.table.count (table_in l.table.words)) l.initial.rep l.rep
+abbrev pub invariant-loop : goal.invariant-loop
+invariant-loop l = Stage (table_in l.table.words) (Kept l.table.count (table_in l.table.words)) l.initial.rep l.rep
 
-abbrev pub decreases-loop-rep : goal.decreases-loop-rep
-decreases-loop-rep l = class_count l.rep
+abbrev pub decreases-loop : goal.decreases-loop
+decreases-loop l = class_count l.rep
