@@ -10,7 +10,7 @@ ghost use Rattle.printing.specs.Lines.{value, value_line, line_of, value_lines, 
 ghost use Rattle.printing.specs.Promise.{ReplyPromise};
 
 use casefile::Case;
-use cells::{Table, is_variable};
+use cells::{is_variable, Words};
 use lines::put_text;
 use refusals::Refusal;
 
@@ -65,11 +65,11 @@ fn put_value(v: usize, entry: u8, at: usize, out: &mut [u8]) -> usize
 }
 
 // Puts the line of the cell v, if it is a variable.
-fn put_line(table: &Table, v: usize, entry: u8, at: usize, out: &mut [u8]) -> usize
+fn put_line(words: &Words, v: usize, entry: u8, at: usize, out: &mut [u8]) -> usize
     requires { (v < 1000) × (at + 11 ≤ length out.old) }
-    ensures { Put (line_of (table_in table.now v) v entry) out.old at out.new result × (result ≤ at + 11) }
+    ensures { Put (line_of (table_in words.now v) v entry) out.old at out.new result × (result ≤ at + 11) }
 {
-    if is_variable(table, v) {
+    if is_variable(words, v) {
         put_value(v, entry, at, out)
     } else {
         at
@@ -77,13 +77,13 @@ fn put_line(table: &Table, v: usize, entry: u8, at: usize, out: &mut [u8]) -> us
 }
 
 // Puts one line for each variable of n cells.
-fn put_values(table: &Table, list: &[u8; 128], n: usize, at: usize, out: &mut [u8]) -> usize
+fn put_values(words: &Words, list: &[u8; 128], n: usize, at: usize, out: &mut [u8]) -> usize
     requires { (n ≤ 128) × (at + 11 * n ≤ length out.old) }
-    ensures { Put (value_lines (table_in table.now) list.now n) out.old at out.new result }
+    ensures { Put (value_lines (table_in words.now) list.now n) out.old at out.new result }
 {
     let mut next = at;
     for v in 0..n {
-        next = put_line(table, v, list[v], next, out);
+        next = put_line(words, v, list[v], next, out);
     }
     next
 }

@@ -18,8 +18,7 @@ pub fn run(file: &[u8], out: &mut [u8]) -> Result<Option<usize>, Refusal>
             place: n,
         });
     }
-    let Some(list) = solving::search::solve(&case.table.words, n, &case.run.words, case.run.count)
-    else {
+    let Some(list) = solving::search::solve(&case.table, &case.run.words, case.run.count) else {
         return Ok(None);
     };
     out[..n].copy_from_slice(&list[..n]);

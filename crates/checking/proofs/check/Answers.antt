@@ -15,7 +15,7 @@ returns-in-Some c =
 pub is_right-requires : goal.is_right-requires
 is_right-requires c =
     let (w, (e, f)) = judged_words (accepted (goal.at.is_right-requires c).In_ok-case) (λ i. omega (arith, c.type_inv.file i)) c.args.list.now (omega arith) c.in_default.ensures in
-    record { table_words = w; run_words = e; form = f }
+    record { run_words = e; form = f }
 
 pub returns : goal.returns
 returns c =

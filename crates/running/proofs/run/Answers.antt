@@ -9,7 +9,7 @@ pub solve-requires : goal.solve-requires
 solve-requires c =
     let w = case_accepted c.args.file.now c.read_case.result c.read_case.ensures c.in_ok-case.case c.in_ok-case.was in
     let b : Bytes c.args.file.now = λ i. search rules in
-    record { table_words = case_words w b; run_words = case_events w; well_formed = case_formed w b }
+    record { run_words = case_events w; well_formed = case_formed w b }
 
 pub returns-in_default : goal.returns-in_default
 returns-in_default c =
