@@ -31,7 +31,7 @@ pub fn may(table: &Table, rep: &[u8; 129], seen: &[u8; 129], c: usize, d: usize)
     requires d_lt_n { d < table.now.count }
     ensures { result ≡ false → On seen.now d → May (table_in table.now.words) rep.now c d → ⊥ }
 {
-    near(table, rep, seen, c, d) && unify(table, *rep, c as u8, d as u8).ok
+    near(table, rep, seen, c, d) && unify(table, *rep, c as u8, d as u8).is_some()
 }
 
 // May c be equal to a cell that is seen? If not, it is not.

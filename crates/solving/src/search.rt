@@ -32,11 +32,8 @@ fn joined(table: &Table, rep: &[u8; 129], x: u8, y: u8) -> Option<[u8; 129]>
     if clash(table, rep, x, y, 3) {
         return None;
     }
-    let u = unify(table, *rep, x, y);
-    if !u.ok {
-        return None;
-    }
-    Some(raise(table, u.rep))
+    let out = unify(table, *rep, x, y)?;
+    Some(raise(table, out))
 }
 
 // The classes of the next pair from the place `from` on that can be made equal.
