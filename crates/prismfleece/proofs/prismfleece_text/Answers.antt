@@ -1,4 +1,4 @@
--- A number has room for each reply, since a refusal's place is told below 2 ^ 32.
+-- A number has room for each reply, since a refusal's place is told below 2 ^ 32; and it is the number of the reply.
 use mathlib.Core.Path.{◌∙◌}
 use Rattle.prismfleece.proofs.TextLaws.{text_fits, cut_room, cut_number}
 use Rattle.prismfleece.proofs.prismfleece_text.Goals as goal
