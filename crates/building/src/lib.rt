@@ -40,7 +40,7 @@ pub fn build_marks(file: &[u8], out: &mut [u8]) -> Result<usize, Refusal>
             place: n,
         });
     }
-    let known = knowledge::heard::open_heard(&case.table.words, n, &case.run.words, case.run.count);
+    let known = knowledge::heard::open_heard(&case.table, &case.run.words, case.run.count);
     lay_marks(n, &known.rep, &known.built, out);
     Ok(n)
 }

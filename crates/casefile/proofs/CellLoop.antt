@@ -13,13 +13,16 @@ use Rattle.model.proofs.Accepted.{accepted_blank, lower_snoc}
 use Rattle.model.proofs.Fuel.{Few}
 use Rattle.model.proofs.Listed.{length_snoc, get_d_snoc}
 use Rattle.model.proofs.Rows.{Fits, table_words}
-use Rattle.casefile.specs.declared.Words.{Words}
+use Rattle.theory.specs.Cells.{TableWords}
+use Rattle.theory.proofs.Rows.{words}
+use Rattle.cells.specs.declared.table.Table.{Table}
+use Rattle.casefile.specs.declared.Row.{Row}
 use Rattle.casefile.specs.Case.{stored, no_words, with_word}
 use Rattle.casefile.specs.Cells.{Before, Next, Begun, Cut}
 use Rattle.casefile.proofs.ReadLaws.{read_fault, read_cell, word_more}
 
 -- The file read so far: its cells lie in t, and what is left decides.
-pub record CellsSoFar (file : List ℕ) (at : ℕ) (t : Words) : Type 0 where
+pub record CellsSoFar (file : List ℕ) (at : ℕ) (t : Row) : Type 0 where
   pub list : List case.Cell
   pub table : t ≡ stored word_of list
   pub few : length list ≤ 128
@@ -28,7 +31,7 @@ pub record CellsSoFar (file : List ℕ) (at : ℕ) (t : Words) : Type 0 where
   pub place : at ≤ length file
   pub rest : read_from 257 (drop at file) at (record { cells = list; events = [] }) ≡ read_file file
 
-pub cells_start : (file : List ℕ) (t : Words) → t ≡ no_words → CellsSoFar file 0 t
+pub cells_start : (file : List ℕ) (t : Row) → t ≡ no_words → CellsSoFar file 0 t
 unfolding read_file
 cells_start file t e = record {
   list = [];
@@ -40,7 +43,7 @@ cells_start file t e = record {
   rest = refl;
 }
 
-module _ (file : List ℕ) (at : ℕ) (t : Words) (s : CellsSoFar file at t) where
+module _ (file : List ℕ) (at : ℕ) (t : Row) (s : CellsSoFar file at t) where
   abbrev f : case.File
   f = record { cells = s.list; events = [] }
 
@@ -56,13 +59,15 @@ module _ (file : List ℕ) (at : ℕ) (t : Words) (s : CellsSoFar file at t) whe
   pub cells_refused : (x : ℕ) → ((g : case.File) → Before g t.count → check (drop at file) g ≡ Checked.fault x) → read_file file ≡ Reading.refused x at
   cells_refused x h = sym s.rest ∙ read_fault file at f room_left x (h f so_far)
 
-  pub cells_events : Begun (drop at file) → Cut file at t
-  cells_events b = record {
+  pub cells_formed : TableWords t.count t.words
+  cells_formed = subst (λ u. TableWords u.count u.words) (sym s.table) (words s.list s.few s.fits s.lower)
+
+  pub cells_events : (u : Table) → u.words ≡ t.words → u.count ≡ t.count → Begun (drop at file) → Cut file at u
+  cells_events u e i b = record {
     list = s.list;
-    table = s.table;
-    shown = ap (λ u. table_in u.words) s.table ∙ fun_ext (λ c. table_words s.list c s.few (s.fits c));
-    few = s.few;
-    lower = s.lower;
+    words = e ∙ ap (λ x. x.words) s.table;
+    count = i ∙ count;
+    shown = ap table_in e ∙ (ap (λ x. table_in x.words) s.table ∙ fun_ext (λ c. table_words s.list c s.few (s.fits c)));
     place = s.place;
     begun = b;
     rest = s.rest;

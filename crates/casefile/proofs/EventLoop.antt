@@ -22,7 +22,8 @@ use Rattle.model.proofs.Listed.{length_snoc, place_member, member_place, elem_ap
 use Rattle.model.proofs.Read.{clash}
 use Rattle.theory.specs.Cells.{On}
 use Rattle.theory.proofs.MarkRows.{on?, no_mark}
-use Rattle.casefile.specs.declared.Words.{Words}
+use Rattle.cells.specs.declared.table.Table.{Table}
+use Rattle.casefile.specs.declared.Row.{Row}
 use Rattle.casefile.specs.Case.{stored, no_words, with_word}
 use Rattle.casefile.specs.Cells.{Begun}
 use Rattle.casefile.specs.Events.{Among, Found, Ended, Loose, shown, marks_after, read_as, Context}
@@ -30,7 +31,7 @@ use Rattle.casefile.proofs.ReadLaws.{read_fault, read_event, read_end, word_more
 use Rattle.casefile.proofs.WithinLaws.{within_part}
 
 -- The file read so far: its events lie in e, the marks made are what its MK events hold, and what is left decides.
-pub record EventsSoFar (base : ℕ) (file : List ℕ) (cells : List case.Cell) (at : ℕ) (e : Words) (made : List ℕ) : Type 0 where
+pub record EventsSoFar (base : ℕ) (file : List ℕ) (cells : List case.Cell) (at : ℕ) (e : Row) (made : List ℕ) : Type 0 where
   pub list : List case.Event
   pub run : e ≡ stored event_word list
   pub few : length list ≤ 128
@@ -87,8 +88,8 @@ module _ (cells : List case.Cell) (low : Lower (table_of cells)) (list : List ca
 abbrev no_marks : List ℕ
 no_marks = replicate 128 0
 
-module _ (rest : List ℕ) (base : ℕ) (t : Words) (file : List ℕ) (cells : List case.Cell) (x : Context rest base t file cells) where
-  pub events_start : (e : Words) → e ≡ no_words → EventsSoFar base file cells 0 e no_marks
+module _ (rest : List ℕ) (base : ℕ) (t : Table) (file : List ℕ) (cells : List case.Cell) (x : Context rest base t file cells) where
+  pub events_start : (e : Row) → e ≡ no_words → EventsSoFar base file cells 0 e no_marks
   events_start e i = record {
     list = [];
     run = i;
@@ -101,12 +102,12 @@ module _ (rest : List ℕ) (base : ℕ) (t : Words) (file : List ℕ) (cells : L
       zero_more : base + 0 ≡ base
       zero_more = omega arith
 
-  module _ (few : t.count ≤ 128) (at : ℕ) (e : Words) (made : List ℕ) (s : EventsSoFar base file cells at e made) where
+  module _ (at : ℕ) (e : Row) (made : List ℕ) (s : EventsSoFar base file cells at e made) where
     abbrev f : case.File
     f = record { cells = cells; events = s.list }
 
     room_left : Few f
-    room_left = record { cells = (let k = x.count in omega arith); events = s.few }
+    room_left = record { cells = (let k = x.count in let h = t.formed.few in omega arith); events = s.few }
 
     events : e.count ≡ length s.list
     events = ap (λ u. u.count) s.run
@@ -138,9 +139,9 @@ module _ (rest : List ℕ) (base : ℕ) (t : Words) (file : List ℕ) (cells : L
       events_end h = (s.list, s.run, follows false (le-ltb _ _ (omega (arith, length-drop at rest))))
 
     -- At an event.
-    module _ (low : Lower (table_in t.words)) (v : case.Event) (d : Found (drop at rest) t.count e.count v) where
+    module _ (v : case.Event) (d : Found (drop at rest) t.count e.count v) where
       low' : Lower (table_of cells)
-      low' = subst Lower x.shown low
+      low' = subst Lower x.shown t.formed.lower
 
       looks : {b : Bool} → loose f (Record.event v) ≡ b → check (drop (base + at) file) f ≡ cond b (Checked.fault 6) (Checked.sound d.tag)
       looks i = ap (λ r. check r f) (sym here_rest) ∙ (d.tested f among ∙ ap (λ b. cond b (Checked.fault 6) (Checked.sound d.tag)) i)

@@ -11,4 +11,5 @@ pub mod VariableLaws
 pub mod CaseLaws
 pub mod FaultLaws
 pub mod CaseFile
+pub mod Same
 pub mod Theorems

@@ -1,7 +1,7 @@
 -- What the reader of the cell records says, in terms of model/specs/Format.
 use Rattle.std.specs.Prelude.{◌≡◌, false, cond, List, [], ℕ, ◌+◌, ◌≤◌, ◌<◌, leb, length, drop, Option, Some, None, Result, Ok, Err}
 use Rattle.model.specs.Case as case
-use Rattle.model.specs.Stored.{first, second, word_of, table_in}
+use Rattle.model.specs.Stored.{first, second, word_of, row, table_in}
 use Rattle.model.specs.Format.{Kind, is_cell, width, record_at, Record, any_of, numbers, cell_bytes, check, Checked, Reading, read_from, read_file}
 use Rattle.refusals.specs.declared.Fault.{Fault}
 use Rattle.refusals.specs.declared.Fault.TheVariants.{TooMany, NoSuchCell}
@@ -9,10 +9,9 @@ use Rattle.refusals.specs.declared.Refusal.{Refusal}
 use Rattle.refusals.specs.Numbers.{number_of}
 use Rattle.cells.specs.Cells.{as_cell}
 use Rattle.cells.specs.declared.Cell.{Cell}
-use Rattle.casefile.specs.declared.Words.{Words}
+use Rattle.cells.specs.declared.table.Table.{Table}
 use Rattle.casefile.specs.declared.table.Cells.{Cells}
 use Rattle.casefile.specs.Record.{Marked}
-use Rattle.casefile.specs.Case.{stored}
 
 -- A file with n cells and no event.
 pub record Before (f : case.File) (n : ℕ) : Type 0 where
@@ -47,12 +46,11 @@ cell_says rest n (Ok None) = Begun rest
 cell_says rest n (Err x) = (f : case.File) → Before f n → check rest f ≡ Checked.fault (number_of x)
 
 -- The cells of a file whose events begin at `at`.
-pub record Cut (file : List ℕ) (at : ℕ) (t : Words) : Type 0 where
+pub record Cut (file : List ℕ) (at : ℕ) (t : Table) : Type 0 where
   pub list : List case.Cell
-  pub table : t ≡ stored word_of list
+  pub words : t.words ≡ row word_of list
+  pub count : t.count ≡ length list
   pub shown : table_in t.words ≡ case.table_of list
-  pub few : length list ≤ 128
-  pub lower : case.Lower (case.table_of list)
   pub place : at ≤ length file
   pub begun : Begun (drop at file)
   pub rest : read_from 257 (drop at file) at (record { cells = list; events = [] }) ≡ read_file file

@@ -11,7 +11,8 @@ use Rattle.refusals.specs.declared.Refusal.{Refusal}
 use Rattle.refusals.specs.Numbers.{number_of}
 use Rattle.cells.specs.Cells.{as_event}
 use Rattle.cells.specs.declared.Event.{Event}
-use Rattle.casefile.specs.declared.Words.{Words}
+use Rattle.cells.specs.declared.table.Table.{Table}
+use Rattle.casefile.specs.declared.Row.{Row}
 use Rattle.casefile.specs.Case.{stored}
 use Rattle.casefile.specs.Cells.{Begun}
 
@@ -87,13 +88,13 @@ marks_after T made (MK c) r = WithinMarked T made c r
 marks_after T made (LN c) r = r ≡ made
 
 -- The reply, events or a refusal, is that of the reading.
-abbrev pub read_as : Result Words Refusal → List case.Cell → Reading → Type 0
+abbrev pub read_as : Result Row Refusal → List case.Cell → Reading → Type 0
 read_as (Err e) cells reading = reading ≡ Reading.refused (number_of e.fault) e.place
 read_as (Ok run) cells reading =
     (events : List case.Event) × (run ≡ stored event_word events) × (reading ≡ Reading.accepted (record { cells = cells; events = events }))
 
 -- A file whose cell records, with these cells, end at `base`, where the rest begins; the cells lie in t.
-pub record Context (rest : List ℕ) (base : ℕ) (t : Words) (file : List ℕ) (cells : List case.Cell) : Type 0 where
+pub record Context (rest : List ℕ) (base : ℕ) (t : Table) (file : List ℕ) (cells : List case.Cell) : Type 0 where
   pub part : rest ≡ drop base file
   pub count : t.count ≡ length cells
   pub shown : table_in t.words ≡ case.table_of cells
@@ -101,5 +102,5 @@ pub record Context (rest : List ℕ) (base : ℕ) (t : Words) (file : List ℕ) 
   pub whole : read_from 257 (drop base file) base (record { cells = cells; events = [] }) ≡ read_file file
 
 -- What the reader of the event records gives back, for every such file.
-abbrev pub EventsRead : List ℕ → ℕ → Words → Result Words Refusal → Type 0
+abbrev pub EventsRead : List ℕ → ℕ → Table → Result Row Refusal → Type 0
 EventsRead rest base t r = (file : List ℕ) (cells : List case.Cell) → Context rest base t file cells → read_as r cells (read_file file)

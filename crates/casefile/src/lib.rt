@@ -2,52 +2,45 @@
 
 #![tactic(auto)]
 
+mod case;
 mod record;
 mod rest;
 mod store;
 mod table;
 
-ghost use Rattle.std.specs.Prelude.{◌≡◌, ◌≤◌};
+ghost use Rattle.std.specs.Prelude.{◌≡◌};
 ghost use Rattle.model.specs.Format.{read_file};
 ghost use Rattle.model.specs.Stored.{table_in};
-ghost use Rattle.casefile.specs.Case.{case_of, VariableFound};
+ghost use Rattle.casefile.specs.Case.{Reads, VariableFound};
 
+pub use case::Case;
 use cells::Table;
 use refusals::Refusal;
 
 // One word for each of so many cells, or events, then zeros.
 #[derive(Clone, Copy)]
-pub struct Words {
+pub struct Row {
     pub words: [u32; 128],
     pub count: usize,
 }
 
-// What is read of an accepted file: its table, its run and the offset of its first VA record, if it has one.
-#[derive(Clone, Copy)]
-pub struct Case {
-    pub table: Words,
-    pub run: Words,
-    pub variable: Option<usize>,
-}
-
-// The offset of the first variable of a table of n cells: the records of the cells before it have four bytes each.
-fn first_variable(table: &Table, n: usize) -> Option<usize>
-    requires { n ≤ 128 }
-    ensures { VariableFound (table_in table.now) n result }
+// The offset of the first variable of a table: the records of the cells before it have four bytes each.
+fn first_variable(table: &Table) -> Option<usize>
+    ensures { VariableFound (table_in table.now.words) table.now.count result }
 {
-    (0..n)
-        .find(|i| cells::is_variable(table, *i))
+    (0..table.count)
+        .find(|i| cells::is_variable(&table.words, *i))
         .map(|i| 4 * i)
 }
 
 // Reads a case file: any bytes are accepted, or refused by the first record at fault.
 pub fn read_case(file: &[u8]) -> Result<Case, Refusal>
-    ensures { result ≡ case_of (read_file file.now) }
+    ensures { Reads (read_file file.now) result }
 {
     let read = table::read_cells(file)?;
     let table = read.table;
     let run = rest::read_events(&file[read.at..], read.at, &table)?;
-    let variable = first_variable(&table.words, table.count);
+    let variable = first_variable(&table);
     Ok(Case {
         table,
         run,

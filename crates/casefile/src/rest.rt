@@ -1,12 +1,11 @@
 // The event records of a file: read as a part of the file that begins where the cell records end.
 ghost use Rattle.std.specs.Prelude.{◌≡◌, ◌+◌, ◌<◌, ◌≤◌, ◌^◌, length, drop};
 ghost use Rattle.model.specs.Stored.{table_in};
-ghost use Rattle.model.specs.Case.{Lower};
 ghost use Rattle.theory.specs.Decides.{Decides};
 ghost use Rattle.cells.specs.Cells.{as_cell, as_event};
 ghost use Rattle.casefile.specs.Events.{event_step, event_says, PartsFit, PartsMarked, WithinMarked, LooseAt, LooseMarks, Loose, marks_after, AimFits, EventsRead};
 
-use super::Words;
+use super::Row;
 use super::record::{Front, Record};
 use cells::{Cell, Event, Parts, Table};
 use refusals::{Fault, Refusal};
@@ -54,9 +53,8 @@ fn mark_parts(k: Cell, marks: &mut [u8; 128])
 
 // Marks all cells that stand in the cell c too: from c downwards, as parts are lower.
 fn mark_within(table: &Table, marks: &mut [u8; 128], c: u8)
-    requires lower { Lower (table_in table.now) }
-    requires c_bound { c < 128 }
-    ensures { WithinMarked (table_in table.now) marks.old c marks.new }
+    requires { c < 128 }
+    ensures { WithinMarked (table_in table.now.words) marks.old c marks.new }
 {
     let mut i = usize::from(c);
     marks[i] = 1;
@@ -65,21 +63,21 @@ fn mark_within(table: &Table, marks: &mut [u8; 128], c: u8)
     while 0 < i {
         i -= 1;
         if marks[i] == 1 {
-            mark_parts(cells::cell_at(table, i), marks);
+            mark_parts(cells::cell_at(&table.words, i), marks);
         }
     }
 }
 
 // Is the cell v a variable, marked as held and not as made?
 fn loose_at(table: &Table, v: usize, held: u8, made: u8) -> bool
-    ensures { Decides result (LooseAt (table_in table.now v) held made) }
+    ensures { Decides result (LooseAt (table_in table.now.words v) held made) }
 {
-    held == 1 && made != 1 && cells::is_variable(table, v)
+    held == 1 && made != 1 && cells::is_variable(&table.words, v)
 }
 
 // Is some variable marked as held and not as made?
 fn is_loose(table: &Table, held: &[u8; 128], made: &[u8; 128]) -> bool
-    ensures { Decides result (LooseMarks (table_in table.now) held.now made.now) }
+    ensures { Decides result (LooseMarks (table_in table.now.words) held.now made.now) }
 {
     for v in 0..128 {
         if loose_at(table, v, held[v], made[v]) {
@@ -92,9 +90,8 @@ fn is_loose(table: &Table, held: &[u8; 128], made: &[u8; 128]) -> bool
 // Does an event show a variable that is not marked as made?
 #[tactic(auto, using(crate::proofs::WithinLaws::learn_loose))]
 fn shows_loose(table: &Table, made: &[u8; 128], event: Event) -> bool
-    requires lower { Lower (table_in table.now) }
-    requires aim_fits { AimFits (as_event event) }
-    ensures { Decides result (Loose (table_in table.now) made.now (as_event event)) }
+    requires { AimFits (as_event event) }
+    ensures { Decides result (Loose (table_in table.now.words) made.now (as_event event)) }
 {
     match event {
         Event::Make(_) => false,
@@ -108,9 +105,8 @@ fn shows_loose(table: &Table, made: &[u8; 128], event: Event) -> bool
 
 // Marks what an event makes too.
 fn mark_made(table: &Table, made: &mut [u8; 128], event: Event)
-    requires lower { Lower (table_in table.now) }
-    requires aim_fits { AimFits (as_event event) }
-    ensures { marks_after (table_in table.now) made.old (as_event event) made.new }
+    requires { AimFits (as_event event) }
+    ensures { marks_after (table_in table.now.words) made.old (as_event event) made.new }
 {
     match event {
         Event::Make(c) => mark_within(table, made, c),
@@ -119,17 +115,15 @@ fn mark_made(table: &Table, made: &mut [u8; 128], event: Event)
 }
 
 // The event records from the front of the rest of a file, which begins at the offset `base`. Nothing may follow their end.
-pub fn read_events(rest: &[u8], base: usize, t: &Words) -> Result<Words, Refusal>
-    requires lower { Lower (table_in t.now.words) }
-    requires count_bound { t.now.count ≤ 128 }
-    requires rest_bound { base + length rest.now < 2 ^ 64 }
-    ensures { EventsRead rest.now base t.now result }
+pub fn read_events(rest: &[u8], base: usize, table: &Table) -> Result<Row, Refusal>
+    requires { base + length rest.now < 2 ^ 64 }
+    ensures { EventsRead rest.now base table.now result }
 {
-    let mut run = Words::new();
+    let mut run = Row::new();
     let mut made = [0; 128];
     let mut at: usize = 0;
     loop {
-        match event_step(rest, at, t.count, run.count) {
+        match event_step(rest, at, table.count, run.count) {
             Err(fault) => return Err(Refusal {
                 fault,
                 place: base + at,
@@ -144,13 +138,13 @@ pub fn read_events(rest: &[u8], base: usize, t: &Words) -> Result<Words, Refusal
                 return Ok(run);
             }
             Ok(Some(event)) => {
-                if shows_loose(&t.words, &made, event) {
+                if shows_loose(table, &made, event) {
                     return Err(Refusal {
                         fault: Fault::LooseVariable,
                         place: base + at,
                     });
                 }
-                mark_made(&t.words, &mut made, event);
+                mark_made(table, &mut made, event);
                 run.push(cells::event_word(event));
                 at += 3;
             }

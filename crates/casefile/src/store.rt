@@ -2,14 +2,14 @@
 ghost use Rattle.std.specs.Prelude.{◌≡◌, ◌<◌};
 ghost use Rattle.casefile.specs.Case.{no_words, with_word};
 
-use super::Words;
+use super::Row;
 
-impl Words {
+impl Row {
     // No words.
-    pub fn new() -> Words
+    pub fn new() -> Row
         ensures { result ≡ no_words }
     {
-        Words {
+        Row {
             words: [0; 128],
             count: 0,
         }

@@ -5,15 +5,15 @@ ghost use Rattle.model.specs.Format as format;
 ghost use Rattle.cells.specs.Cells.{as_cell};
 ghost use Rattle.casefile.specs.Cells.{cell_step, cell_says, CellsRead};
 
-use super::Words;
+use super::Row;
 use super::record::{Front, Record};
-use cells::{Cell, Parts};
+use cells::{Cell, Parts, Table};
 use refusals::{Fault, Refusal};
 
 // The cells of a file, and the offset where their records end.
 #[derive(Clone, Copy)]
 pub struct Cells {
-    pub table: Words,
+    pub table: Table,
     pub at: usize,
 }
 
@@ -67,14 +67,20 @@ fn cell_step(file: &[u8], at: usize, n: usize) -> Result<Option<Cell>, Fault>
 pub fn read_cells(file: &[u8]) -> Result<Cells, Refusal>
     ensures { CellsRead file.now result }
 {
-    let mut table = Words::new();
+    let mut row = Row::new();
     let mut at: usize = 0;
     loop {
-        match cell_step(file, at, table.count) {
+        match cell_step(file, at, row.count) {
             Err(fault) => return Err(Refusal { fault, place: at }),
-            Ok(None) => return Ok(Cells { table, at }),
+            Ok(None) => {
+                let table = Table {
+                    words: row.words,
+                    count: row.count,
+                };
+                return Ok(Cells { table, at });
+            }
             Ok(Some(c)) => {
-                table.push(cells::word_of(c));
+                row.push(cells::word_of(c));
                 at += size_of(c);
             }
         }

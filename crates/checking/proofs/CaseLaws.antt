@@ -1,18 +1,19 @@
 -- What the words of an accepted file say of a value list, and the replies by them.
-use mathlib.Core.Path.{◌≡◌, sym, ◌∙◌, ap, subst}
+use mathlib.Core.Path.{◌≡◌, refl, sym, ◌∙◌, ap, subst}
 use mathlib.Core.List.{List}
 use Prim.Native.Nat.{ℕ}
 use lib.ListN.{length}
-use Rattle.std.specs.Prelude.{Option, Some, None}
+use Rattle.std.specs.Prelude.{Option, Some, None, Bool, true, false, Ok}
+use Rattle.refusals.specs.Refused.{Refused}
 use Rattle.model.specs.Case.{Table, Run, table_of}
 use Rattle.model.specs.Stored.{table_in, run_in}
 use Rattle.model.specs.Values.{Form, RightList}
 use Rattle.model.specs.Replies.{FormOf, RightOf}
 use Rattle.model.proofs.Accepted.{Bytes}
 use Rattle.theory.specs.Cells.{TableWords, RunWords}
+use Rattle.theory.specs.Decides.{Decides}
 use Rattle.casefile.specs.declared.Case.{Case}
 use Rattle.casefile.proofs.CaseFile.{CaseFile, case_count, case_table, case_run, case_words, case_events}
-use Rattle.checking.specs.declared.Judged.TheVariants.{Refused, Wrong, Right}
 use Rattle.checking.specs.Form.{FirstBad, entry_cell}
 use Rattle.checking.specs.Promise.{CheckPromise}
 use Rattle.checking.proofs.PromiseLaws.{promise_form, promise_right, promise_wrong}
@@ -43,8 +44,6 @@ module _ {file : List ℕ} {r : Case} (w : CaseFile file r) (bytes : Bytes file)
         ap (λ (T : Table). RightList T (run_in r.run.count r.run.words) (entry_cell list)) (case_table w bytes)
         ∙ ap (λ (ev : Run). RightList (table_of w.f.cells) ev (entry_cell list)) (case_run w)
 
-    pub judged_right : RightWords → CheckPromise file list Right
-    judged_right x = promise_right file list w.f w.read form (subst (λ (A : Type 0). A) right_is x)
-
-    pub judged_wrong : (RightWords → ⊥) → CheckPromise file list Wrong
-    judged_wrong none = promise_wrong file list w.f w.read form (λ x. none (subst (λ (A : Type 0). A) (sym right_is) x))
+    pub judged_right : (b : Bool) → Decides b RightWords → CheckPromise file list (Ok b)
+    judged_right true d = promise_right file list w.f w.read form (subst (λ (A : Type 0). A) right_is (d.yes refl))
+    judged_right false d = promise_wrong file list w.f w.read form (λ x. d.no refl (subst (λ (A : Type 0). A) (sym right_is) x))

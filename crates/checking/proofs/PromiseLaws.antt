@@ -1,6 +1,7 @@
 -- When a reply keeps the promise: a law for each of the replies; and that the form of a list is decided.
-use mathlib.Core.Path.{◌≡◌, refl, sym, ap, subst}
+use mathlib.Core.Path.{Path, ◌≡◌, refl, sym, ap, subst}
 use mathlib.Core.List.{List}
+use Rattle.std.specs.Prelude.{Bool, true, false, Result, Ok, Err}
 use mathlib.Core.Logic.{◌⊎◌, inl, inr}
 use Prim.Native.Nat.{ℕ, ◌<◌}
 use native.Mathlib.Omega.{arith}
@@ -12,41 +13,25 @@ use Rattle.model.specs.Format.{Reading, read_file}
 use Rattle.model.proofs.Finite.{eq?, least}
 use Rattle.model.proofs.Read.{clash, var?}
 use Rattle.model.specs.Replies.{FormOf, RightOf}
-use Rattle.checking.specs.declared.Judged.TheVariants.{Refused, Wrong, Right}
+use Rattle.refusals.specs.declared.Refusal.{Refusal}
+use Rattle.refusals.specs.Refused.{Refused}
 use Rattle.checking.specs.Promise.{EntryOf, CheckPromise}
 
 not_both : (x : Reading) (number place : ℕ) (f : File) → x ≡ Reading.refused number place → x ≡ Reading.accepted f → ⊥
 not_both x number place f e i = clash (cc)
 
-same_refusal : (x : Reading) (n p n' p' : ℕ) → x ≡ Reading.refused n p → x ≡ Reading.refused n' p' → Refused n p ≡ Refused n' p'
-same_refusal x n p n' p' e i = cc
-
 same_file : (x : Reading) (f g : File) → x ≡ Reading.accepted f → x ≡ Reading.accepted g → f ≡ g
 same_file x f g e i = cc
 
-refused_right : (n p : ℕ) → Refused n p ≡ Right → ⊥
-refused_right n p e = clash (cc)
+-- The replies are of one type; no refusal is an answer, and "right" is not "wrong".
+abbrev Reply : Type 0
+Reply = Result Bool Refusal
 
-refused_wrong : (n p : ℕ) → Refused n p ≡ Wrong → ⊥
-refused_wrong n p e = clash (cc)
+refused_not : (e : Refusal) (b : Bool) → Path Reply (Err e) (Ok b) → ⊥
+refused_not e b i = clash (cc)
 
-right_wrong : Right ≡ Wrong → ⊥
+right_wrong : Path Reply (Ok true) (Ok false) → ⊥
 right_wrong e = clash (cc)
-
--- The file is refused.
-pub promise_refused : (file list : List ℕ) (number place : ℕ) → read_file file ≡ Reading.refused number place → CheckPromise file list (Refused number place)
-promise_refused file list number place e = record {
-  refused = λ n p i. same_refusal (read_file file) number place n p e i;
-  size = λ f i. absurd (off f i);
-  form = λ f i. absurd (off f i);
-  right = λ f i. absurd (off f i);
-  wrong = λ f i. absurd (off f i);
-  right_only = λ f i. absurd (off f i);
-  wrong_only = λ f i. absurd (off f i);
-}
-  where
-    off : (f : File) → read_file file ≡ Reading.accepted f → ⊥
-    off f i = not_both (read_file file) number place f e i
 
 module _ (file list : List ℕ) (f : File) (e : read_file file ≡ Reading.accepted f) where
   on : (number place : ℕ) → read_file file ≡ Reading.refused number place → ⊥
@@ -63,8 +48,8 @@ module _ (file list : List ℕ) (f : File) (e : read_file file ≡ Reading.accep
     form = λ g i k d hd good worse. ap (Refused 10) (first d (subst (λ (x : File). (j : ℕ) → j < d → EntryOf x list j) (sym (same g i)) good) (λ z. worse (subst (λ (x : File). EntryOf x list d) (same g i) z)));
     right = λ g i r. absurd (at g i r.0);
     wrong = λ g i r. absurd (at g i r);
-    right_only = λ g i k. absurd (refused_right _ _ k);
-    wrong_only = λ g i k. absurd (refused_wrong _ _ k);
+    right_only = λ g i k. absurd (refused_not _ _ k);
+    wrong_only = λ g i k. absurd (refused_not _ _ k);
   }
     where
       first : (d : ℕ) → ((j : ℕ) → j < d → EntryOf f list j) → (EntryOf f list d → ⊥) → c ≡ d
@@ -81,7 +66,7 @@ module _ (file list : List ℕ) (f : File) (e : read_file file ≡ Reading.accep
     whole g i = subst (λ (x : File). FormOf x list) (same g i) w
 
     -- The list is right.
-    pub promise_right : RightOf f list → CheckPromise file list Right
+    pub promise_right : RightOf f list → CheckPromise file list (Ok true)
     promise_right r = record {
       refused = λ n p i. absurd (on n p i);
       size = λ g i ne. absurd (ne (whole g i).size);
@@ -96,7 +81,7 @@ module _ (file list : List ℕ) (f : File) (e : read_file file ≡ Reading.accep
         here g i = subst (λ (x : File). RightOf x list) (same g i) r
 
     -- It is not.
-    pub promise_wrong : (RightOf f list → ⊥) → CheckPromise file list Wrong
+    pub promise_wrong : (RightOf f list → ⊥) → CheckPromise file list (Ok false)
     promise_wrong none = record {
       refused = λ n p i. absurd (on n p i);
       size = λ g i ne. absurd (ne (whole g i).size);

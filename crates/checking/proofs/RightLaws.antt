@@ -21,13 +21,13 @@ use Rattle.theory.specs.Level.{Mark, built}
 use Rattle.theory.proofs.Level.{class_reads}
 use Rattle.theory.proofs.Rows.{rows_formed, rows_var}
 use Rattle.theory.proofs.Twins.{shows_apart}
-use Rattle.classes.specs.declared.Settled.{Settled}
+use Rattle.std.specs.Prelude.{None}
 use Rattle.classes.specs.Kept.{Solved}
 use Rattle.classes.specs.Upward.{Raised}
 use Rattle.classes.proofs.SolvedLaws.{solved_met}
 use Rattle.knowledge.proofs.Ground.{mark_iff_built}
 use Rattle.checking.specs.Form.{entry_cell, Owned}
-use Rattle.checking.specs.Follow.{Inside, Listed, Follows}
+use Rattle.checking.specs.Follow.{Inside, Listed, Follows, Followed}
 use Rattle.checking.specs.Made.{AllMade}
 use Rattle.checking.proofs.FormLaws.{entry_bound}
 
@@ -160,18 +160,17 @@ module _ (n : ℕ) (words : List ℕ) (w : TableWords n words) (rep : List ℕ) 
 
 -- ---- the answer
 
-module _ (n : ℕ) (words list out : List ℕ) (w : TableWords n words) (form : Form (table_in words) n list) (o : Owned (table_in words) list (table_in out)) (ev : Run)
-    (r : Settled) (f : Follows n (table_in out) list r) where
+module _ (n : ℕ) (words list out : List ℕ) (w : TableWords n words) (form : Form (table_in words) n list) (o : Owned (table_in words) list (table_in out)) (ev : Run) where
   -- A list that comes round.
-  pub right_round : r.ok ≡ false → RightList (table_in words) ev (entry_cell list) → ⊥
-  right_round e (m, mr, l, right) = let (mr', l') = reads_own n words list out w form o m mr l in f.no e m mr' l'
+  pub right_round : Follows n (table_in out) list None → RightList (table_in words) ev (entry_cell list) → ⊥
+  right_round none (m, mr, l, right) = let (mr', l') = reads_own n words list out w form o m mr l in none m mr' l'
 
-  module _ (ok : r.ok ≡ true) (rep : List ℕ) (u : Raised n (table_in out) r.rep rep) where
+  module _ (classes : List ℕ) (f : Followed n (table_in out) list classes) (rep : List ℕ) (u : Raised n (table_in out) classes rep) where
     abbrev Y : Table
     Y = table_in out
 
     met : (m : ℕ → Message) → Reads Y m m → Listed Y list m ↔ Sat (class_at rep) m
-    met m mr = (λ l. (u.sat m mr).0 ((f.sat ok m mr).0 l), λ s. (f.sat ok m mr).1 ((u.sat m mr).1 s))
+    met m mr = (λ l. (u.sat m mr).0 ((f.sat m mr).0 l), λ s. (f.sat m mr).1 ((u.sat m mr).1 s))
 
     pub right_yes : AllMade (table_in out) rep ev true → RightList (table_in words) ev (entry_cell list)
     right_yes a =

@@ -1,11 +1,10 @@
 -- Following a list by classes of cells.
 -- Inside: entries are cells; Listed: messages that follow the list; Binds, Gathers, Follows: the functions.
-use Rattle.std.specs.Prelude.{◌≡◌, true, false, List, ◌↔◌, ℕ, ◌<◌, get_or}
+use Rattle.std.specs.Prelude.{◌≡◌, true, false, List, ◌↔◌, ℕ, ◌<◌, get_or, Option, Some, None}
 use Rattle.model.specs.Message.{Message}
 use Rattle.model.specs.Case.{VA, Table, Reads}
 use Rattle.theory.specs.Cells.{class_at}
 use Rattle.theory.specs.Classes.{Sat}
-use Rattle.classes.specs.declared.Settled.{Settled}
 use Rattle.classes.specs.Kept.{Kept, Solved}
 
 -- The entry of a variable is a cell of the table that is no variable.
@@ -26,8 +25,12 @@ pub record Gathers (n : ℕ) (T : Table) (list out : List ℕ) : Type 0 where
   pub kept : Kept n T out
   pub sat : (m : ℕ → Message) → Reads T m m → Listed T list m ↔ Sat (class_at out) m
 
--- Solved classes that exactly those messages satisfy that follow the list; or there are none.
-pub record Follows (n : ℕ) (T : Table) (list : List ℕ) (r : Settled) : Type 0 where
-  pub no : r.ok ≡ false → (m : ℕ → Message) → Reads T m m → Listed T list m → ⊥
-  pub solved : r.ok ≡ true → Solved n T r.rep
-  pub sat : r.ok ≡ true → (m : ℕ → Message) → Reads T m m → Listed T list m ↔ Sat (class_at r.rep) m
+-- Solved classes that exactly those messages satisfy that follow the list.
+pub record Followed (n : ℕ) (T : Table) (list out : List ℕ) : Type 0 where
+  pub solved : Solved n T out
+  pub sat : (m : ℕ → Message) → Reads T m m → Listed T list m ↔ Sat (class_at out) m
+
+-- Such classes; none, if no messages of the cells follow the list.
+abbrev pub Follows : ℕ → Table → List ℕ → Option (List ℕ) → Type 0
+Follows n T list (Some out) = Followed n T list out
+Follows n T list None = (m : ℕ → Message) → Reads T m m → Listed T list m → ⊥

@@ -1,7 +1,7 @@
 // What is to be made: each MK asks whether its cell is built from what was learnt before it.
 ghost use Rattle.std.specs.Prelude.{◌≤◌, ◌<◌};
 ghost use Rattle.model.specs.Stored.{table_in, run_in};
-ghost use Rattle.theory.specs.Cells.{TableWords, RunWords};
+ghost use Rattle.theory.specs.Cells.{RunWords};
 ghost use Rattle.knowledge.specs.Knowledge.{ClassRow};
 ghost use Rattle.checking.specs.Made.{MadeAt, AllMade};
 
@@ -9,17 +9,17 @@ use cells::{Event, Run, Table, event_at};
 use knowledge::heard::learnt_before;
 
 // Is what the event at p asks for built from what was learnt before it? An LN asks for nothing.
-fn made_at(table: &Table, n: usize, rep: &[u8; 129], run: &Run, count: usize, p: usize) -> bool
-    requires table_words { TableWords n table.now }
-    requires class_row { ClassRow n rep.now }
-    requires run_words { RunWords n run.now count }
+fn made_at(table: &Table, rep: &[u8; 129], run: &Run, count: usize, p: usize) -> bool
+    requires class_row { ClassRow table.now.count rep.now }
+    requires run_words { RunWords table.now.count run.now count }
     requires p_lt_count { p < count }
-    ensures { MadeAt (table_in table.now) rep.now (run_in count run.now) p result }
+    ensures { MadeAt (table_in table.now.words) rep.now (run_in count run.now) p result }
 {
+    let n = table.count;
     match event_at(run, p) {
         Event::Make(x) => {
             let seen = learnt_before(n, rep, run, count, p);
-            let known = knowledge::open_known(table, n, rep, seen);
+            let known = knowledge::open_known(table, rep, seen);
             knowledge::has(n, rep, &known.built, x)
         }
         Event::Learn(_) => true,
@@ -27,11 +27,10 @@ fn made_at(table: &Table, n: usize, rep: &[u8; 129], run: &Run, count: usize, p:
 }
 
 // Is every MK cell built from what was learnt before it?
-pub fn all_made(table: &Table, n: usize, rep: &[u8; 129], run: &Run, count: usize) -> bool
-    requires table_words { TableWords n table.now }
-    requires class_row { ClassRow n rep.now }
-    requires run_words { RunWords n run.now count }
-    ensures { AllMade (table_in table.now) rep.now (run_in count run.now) result }
+pub fn all_made(table: &Table, rep: &[u8; 129], run: &Run, count: usize) -> bool
+    requires class_row { ClassRow table.now.count rep.now }
+    requires run_words { RunWords table.now.count run.now count }
+    ensures { AllMade (table_in table.now.words) rep.now (run_in count run.now) result }
 {
-    (0..count).all(|p| made_at(table, n, rep, run, count, p))
+    (0..count).all(|p| made_at(table, rep, run, count, p))
 }

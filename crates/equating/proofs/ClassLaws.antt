@@ -1,6 +1,5 @@
 -- What solved classes, and the lack of them, say of two cells of a table.
 use mathlib.Core.Path.{◌≡◌, sym, ◌∙◌}
-use mathlib.Core.Bool.{true, false}
 use mathlib.Core.List.{List}
 use mathlib.Core.Logic.{inl, inr}
 use Prim.Native.Nat.{ℕ, ◌<◌}
@@ -15,8 +14,8 @@ use Rattle.model.proofs.Read.{message_self, var?}
 use Rattle.theory.specs.Cells.{TableWords, class_at}
 use Rattle.theory.proofs.Answers.{equate_yes_lem}
 use Rattle.theory.proofs.Rows.{rows_var}
-use Rattle.classes.specs.declared.Settled.{Settled}
-use Rattle.classes.specs.Settle.{Unifies}
+use Rattle.classes.specs.Kept.{Never}
+use Rattle.classes.specs.Settle.{Unified}
 use Rattle.classes.specs.Twins.{Start}
 use Rattle.classes.proofs.RowLaws.{class_low}
 use Rattle.classes.proofs.SolvedLaws.{solved_grounds}
@@ -47,21 +46,21 @@ module _ (n : ℕ) (words : List ℕ) (w : TableWords n words) where
     | inr s ↦ (let z = list_own rep c s in omega arith)
   ]
 
-  module _ (first : List ℕ) (start : Start n T first) (a b : ℕ) (r : Settled) (u : Unifies n T first a b r) where
-    pub classes_never : r.ok ≡ false → (ρ : ℕ → Message) → message (table_in words) ρ a ≡ message (table_in words) ρ b → ⊥
-    classes_never bad ρ e = let m = message_self T ρ w.lower in u.no bad (message T ρ) m (start.met (message T ρ) m) e
+  module _ (first : List ℕ) (start : Start n T first) (a b : ℕ) where
+    pub classes_never : Never T (class_at first) a b → (ρ : ℕ → Message) → message (table_in words) ρ a ≡ message (table_in words) ρ b → ⊥
+    classes_never never ρ e = let m = message_self T ρ w.lower in never (message T ρ) m (start.met (message T ρ) m) e
 
-    classes_equate : r.ok ≡ true → Equates T a b (class_at r.rep)
-    classes_equate good =
-        let s = u.solved good in
-        let (τ, g) = solved_grounds n T r.rep s (λ y. atom 0) in
-        equate_yes_lem T (class_at r.rep) (λ y. atom 0) τ s.closed s.kept.reps.idem g a b w.lower s.kept.reps.lowest
-        (λ m mr. (λ e. (u.sat good m mr).0 (start.met m mr, e), λ l. ((u.sat good m mr).1 l).1))
+    classes_equate : (rep : List ℕ) → Unified n T first a b rep → Equates T a b (class_at rep)
+    classes_equate rep u =
+        let s = u.solved in
+        let (τ, g) = solved_grounds n T rep s (λ y. atom 0) in
+        equate_yes_lem T (class_at rep) (λ y. atom 0) τ s.closed s.kept.reps.idem g a b w.lower s.kept.reps.lowest
+        (λ m mr. (λ e. (u.sat m mr).0 (start.met m mr, e), λ l. ((u.sat m mr).1 l).1))
 
-    pub classes_list : r.ok ≡ true → EquatingList (table_in words) n a b (list_of (table_in words) r.rep n)
-    classes_list good = record {
-      size = length_list_of T r.rep n;
-      cells = list_inside r.rep (u.solved good).kept.inside;
-      own = list_own r.rep;
-      equates = equates_same T (class_at r.rep) (λ v. get_or (list_of T r.rep n) v v) (list_var r.rep) a b (classes_equate good);
+    pub classes_list : (rep : List ℕ) → Unified n T first a b rep → EquatingList (table_in words) n a b (list_of (table_in words) rep n)
+    classes_list rep u = record {
+      size = length_list_of T rep n;
+      cells = list_inside rep u.solved.kept.inside;
+      own = list_own rep;
+      equates = equates_same T (class_at rep) (λ v. get_or (list_of T rep n) v v) (list_var rep) a b (classes_equate rep u);
     }

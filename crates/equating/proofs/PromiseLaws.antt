@@ -19,8 +19,9 @@ use Rattle.model.proofs.Stored.{laid_front, laid_beyond}
 use Rattle.model.proofs.Settled.{NoOrList, refusals_alike, answers_alike}
 use Rattle.casefile.specs.declared.Case.{Case}
 use Rattle.casefile.proofs.CaseFile.{CaseFile, case_words, case_count, case_table}
-use Rattle.classes.specs.declared.Settled.{Settled}
-use Rattle.classes.specs.Settle.{Unifies}
+use Rattle.theory.specs.Cells.{class_at}
+use Rattle.classes.specs.Kept.{Never}
+use Rattle.classes.specs.Settle.{Unified}
 use Rattle.classes.specs.Twins.{Start}
 use Rattle.std.specs.Prelude.{Option, Some, None, Result, Ok}
 use Rattle.refusals.specs.declared.Refusal.{Refusal}
@@ -84,33 +85,32 @@ module _ {file : List ℕ} {r : Case} (w : CaseFile file r) (a b : ℕ) (before 
     file_inside : Off (length w.f.cells) → ⊥
     file_inside o = inside (subst Off (sym (case_count w)) o)
 
-    module _ (room : r.table.count ≤ length before) (bytes : Bytes file) (first : List ℕ) (start : Start r.table.count (table_in r.table.words) first)
-        (s : Settled) (u : Unifies r.table.count (table_in r.table.words) first a b s) where
+    module _ (room : r.table.count ≤ length before) (bytes : Bytes file) (first : List ℕ) (start : Start r.table.count (table_in r.table.words) first) where
       enough : length w.f.cells ≤ length before
       enough = omega (arith, case_count w)
 
-      never : s.ok ≡ false → NeverEqual w.f a b
+      never : Never (table_in r.table.words) (class_at first) a b → NeverEqual w.f a b
       never e =
           subst (λ (T : Table). (ρ : ℕ → Message) → message T ρ a ≡ message T ρ b → ⊥) (case_table w bytes)
-          (classes_never r.table.count r.table.words (case_words w bytes) first start a b s u e)
+          (classes_never r.table.count r.table.words (case_words w bytes) first start a b e)
 
-      pub reply_no : s.ok ≡ false → EquatePromise file a b before (Ok None) before
+      pub reply_no : Never (table_in r.table.words) (class_at first) a b → EquatePromise file a b before (Ok None) before
       reply_no e = promise_no file a b before w.f w.read file_inside enough (never e)
 
-      abbrev list : List ℕ
-      list = list_of (table_in r.table.words) s.rep r.table.count
+      abbrev list : List ℕ → List ℕ
+      list rep = list_of (table_in r.table.words) rep r.table.count
 
-      equated : s.ok ≡ true → EquatedBy w.f a b list
-      equated e =
-          subst (λ (n : ℕ). EquatingList (table_of w.f.cells) n a b list) (case_count w)
-          (subst (λ (T : Table). EquatingList T r.table.count a b list) (case_table w bytes)
-          (classes_list r.table.count r.table.words (case_words w bytes) first start a b s u e))
+      equated : (rep : List ℕ) → Unified r.table.count (table_in r.table.words) first a b rep → EquatedBy w.f a b (list rep)
+      equated rep u =
+          subst (λ (n : ℕ). EquatingList (table_of w.f.cells) n a b (list rep)) (case_count w)
+          (subst (λ (T : Table). EquatingList T r.table.count a b (list rep)) (case_table w bytes)
+          (classes_list r.table.count r.table.words (case_words w bytes) first start a b rep u))
 
-      pub reply_listed : s.ok ≡ true → (after : List ℕ) → after ≡ laid (list_of (table_in r.table.words) s.rep r.table.count) before →
+      pub reply_listed : (rep : List ℕ) → Unified r.table.count (table_in r.table.words) first a b rep → (after : List ℕ) → after ≡ laid (list_of (table_in r.table.words) rep r.table.count) before →
           EquatePromise file a b before (Ok (Some r.table.count)) after
-      reply_listed e after k =
+      reply_listed rep u after k =
           subst (λ (n : ℕ). EquatePromise file a b before (Ok (Some n)) after) (sym (case_count w))
-          (promise_listed file a b before w.f w.read file_inside enough list after (equated e) k)
+          (promise_listed file a b before w.f w.read file_inside enough (list rep) after (equated rep u) k)
 
 -- ---- "no" and a list exclude each other
 

@@ -9,7 +9,7 @@ ghost use Rattle.theory.specs.Decides.{Decides};
 ghost use Rattle.equating.specs.Entries.{entry_of, list_of};
 ghost use Rattle.equating.specs.Promise.{EquatePromise};
 
-use cells::{Table, is_variable};
+use cells::{Words, is_variable};
 use refusals::{Fault, Refusal};
 
 // Is a or b none of n cells?
@@ -20,11 +20,11 @@ fn outside(n: usize, a: usize, b: usize) -> bool
 }
 
 // The entry of the cell c: for a variable the cell that stands for its class, for any other cell its own number.
-fn entry(table: &Table, rep: &[u8; 129], c: usize) -> u8
+fn entry(words: &Words, rep: &[u8; 129], c: usize) -> u8
     requires { c < 128 }
-    ensures { result ≡ entry_of (table_in table.now c) (get_or rep.now c 0) c }
+    ensures { result ≡ entry_of (table_in words.now c) (get_or rep.now c 0) c }
 {
-    if is_variable(table, c) {
+    if is_variable(words, c) {
         rep[c]
     } else {
         c as u8
@@ -32,12 +32,12 @@ fn entry(table: &Table, rep: &[u8; 129], c: usize) -> u8
 }
 
 // Writes the entries of n cells to the front of the buffer.
-fn write_list(table: &Table, rep: &[u8; 129], n: usize, out: &mut [u8])
+fn write_list(words: &Words, rep: &[u8; 129], n: usize, out: &mut [u8])
     requires { (n ≤ 128) × (n ≤ length out.old) }
-    ensures { out.new ≡ laid (list_of (table_in table.now) rep.now n) out.old }
+    ensures { out.new ≡ laid (list_of (table_in words.now) rep.now n) out.old }
 {
     for i in 0..n {
-        out[i] = entry(table, rep, i);
+        out[i] = entry(words, rep, i);
     }
 }
 
@@ -59,11 +59,10 @@ pub fn equate(file: &[u8], a: usize, b: usize, out: &mut [u8]) -> Result<Option<
             place: n,
         });
     }
-    let rep = classes::start(&case.table.words, n);
-    let joined = classes::unify(&case.table.words, n, rep, a as u8, b as u8);
-    if !joined.ok {
+    let start = classes::start(&case.table);
+    let Some(rep) = classes::unify(&case.table, start, a as u8, b as u8) else {
         return Ok(None);
-    }
-    write_list(&case.table.words, &joined.rep, n, out);
+    };
+    write_list(&case.table.words, &rep, n, out);
     Ok(Some(n))
 }

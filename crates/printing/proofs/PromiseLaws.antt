@@ -1,5 +1,5 @@
 -- From the reply to the run and what was read to the lines; and that the promise settles the text but for the list shown.
-use mathlib.Core.Path.{◌≡◌, refl, sym, ◌∙◌, ap, subst}
+use mathlib.Core.Path.{◌≡◌, refl, sym, ◌∙◌, ap, ap₂, subst}
 use mathlib.Core.List.{List, ◌++◌}
 use mathlib.Core.Logic.{inl, inr}
 use Prim.Native.Nat.{ℕ, ◌<◌, ◌≤◌}
@@ -7,20 +7,19 @@ use native.Mathlib.Decide.{dec_lt}
 use native.Mathlib.Omega.{arith}
 use lib.ListN.{length, take}
 use lib.Seq.{take-take}
+use Rattle.std.specs.Prelude.{Option, Some, None, Result, Ok}
 use Rattle.model.specs.Case.{File, Table, table_of}
-use Rattle.model.specs.Format.{read_file, Reading, refused, accepted}
+use Rattle.model.specs.Format.{read_file, refused, accepted}
 use Rattle.model.specs.Stored.{table_in}
 use Rattle.model.specs.Replies.{RightListed, NoneRight, laid}
 use Rattle.model.proofs.Read.{clash}
 use Rattle.model.proofs.Accepted.{Bytes, accepted_file}
 use Rattle.model.proofs.Places.{refused_place}
 use Rattle.model.proofs.Prefix.{read_file_prefix}
-use Rattle.running.specs.declared.Solved.{Solved}
-use Rattle.running.specs.declared.Solved.TheVariants.{Refused, No, Yes}
+use Rattle.refusals.specs.declared.Refusal.{Refusal}
 use Rattle.running.specs.Promise.{Answered, RunPromise}
 use Rattle.running.proofs.PromiseLaws.{no_and_yes}
 use Rattle.casefile.specs.declared.Case.{Case}
-use Rattle.casefile.specs.Case.{case_of}
 use Rattle.casefile.proofs.CaseFile.{CaseFile, case_count, case_table}
 use Rattle.printing.specs.Lines.{Lines, refused_line, counts_line, yes_line, no_line, no_lines, yes_lines, value_lines}
 use Rattle.printing.specs.Promise.{Written, ReplyPromise, SameButValues, same, values}
@@ -30,83 +29,45 @@ use Rattle.printing.proofs.LineLaws.{lines_laid}
 
 -- ---- what a run says that had room for a list
 
-module _ (file before list : List ℕ) (room : length before ≡ 128) (reply : Solved) (p : RunPromise file before reply list) where
-  answered : (f : File) → read_file file ≡ accepted f → Answered file before f
-  answered f e = record { read = e; room = (let h = (accepted_file file f e).few_cells in omega arith) }
+module _ (file before list : List ℕ) (room : length before ≡ 128) {reply : Result (Option ℕ) Refusal} (p : RunPromise file before reply list) (f : File) (e : read_file file ≡ accepted f) where
+  answered : Answered file before f
+  answered = record { read = e; room = (let h = (accepted_file file f e).few_cells in omega arith) }
 
-  pub run_refused : (n at : ℕ) → reply ≡ Refused n at → (read_file file ≡ refused n at) × (at ≤ 899)
-  run_refused n at i = go (read_file file) refl
-    where
-      go : (x : Reading) → read_file file ≡ x → (read_file file ≡ refused n at) × (at ≤ 899)
-      go (refused m q) e =
-          let z = (p.refused m q e).0 in
-          let r : read_file file ≡ refused n at = e ∙ cc in
-          (r, (refused_place file n at r).2)
-      go (accepted f) e = elim (p.replied f (answered f e)) [ inl z ↦ clash (cc) | inr z ↦ clash (cc) ]
+  pub run_no_lem : reply ≡ Ok None → NoneRight f
+  run_no_lem i = (p.no f answered i).0
 
-  pub run_no_lem : reply ≡ No → (f : File) × (read_file file ≡ accepted f) × NoneRight f
-  run_no_lem i = go (read_file file) refl
-    where
-      go : (x : Reading) → read_file file ≡ x → (f : File) × (read_file file ≡ accepted f) × NoneRight f
-      go (refused m q) e = let z = (p.refused m q e).0 in clash (cc)
-      go (accepted f) e = (f, e, (p.no f (answered f e) i).0)
+  pub run_yes_lem : (n : ℕ) → reply ≡ Ok (Some n) → (l : List ℕ) × RightListed f l × (list ≡ laid l before)
+  run_yes_lem n i = elim (p.replied f answered) [ inl z ↦ clash (cc) | inr z ↦ p.yes f answered z ]
 
-  pub run_yes_lem : (n : ℕ) → reply ≡ Yes n → (f : File) × (read_file file ≡ accepted f) × (l : List ℕ) × RightListed f l × (list ≡ laid l before)
-  run_yes_lem n i = go (read_file file) refl
-    where
-      go : (x : Reading) → read_file file ≡ x → (f : File) × (read_file file ≡ accepted f) × (l : List ℕ) × RightListed f l × (list ≡ laid l before)
-      go (refused m q) e = let z = (p.refused m q e).0 in clash (cc)
-      go (accepted f) e = elim (p.replied f (answered f e)) [ inl z ↦ clash (cc) | inr z ↦ (let (l, w, k) = p.yes f (answered f e) z in (f, e, l, w, k)) ]
+-- The place of a refusal has at most three digits.
+pub place_few : (file : List ℕ) (n p : ℕ) → read_file file ≡ refused n p → p < 1000
+place_few file n p e = let h = (refused_place file n p e).2 in omega arith
 
 -- ---- what was read
 
-module _ (file : List ℕ) (r : Case) (reply : r ≡ case_of (read_file file)) (f : File) (e : read_file file ≡ accepted f) where
-  pub stored_as : r ≡ case_of (accepted f)
-  stored_as = reply ∙ ap case_of e
+module _ {file : List ℕ} {r : Case} (w : CaseFile file r) where
+  pub case_events : r.run.count ≡ length w.f.events
+  case_events = ap (λ u. u.count) w.run
 
-  abbrev pub case_of_lem : CaseFile file r
-  case_of_lem = record {
-    f = f;
-    read = e;
-    table = ap (λ (u : Case). u.table) stored_as;
-    run = ap (λ (u : Case). u.run) stored_as;
-    variable = ap (λ (u : Case). u.variable) stored_as;
-  }
+  counts_text : counts_line r.table.count r.run.count ≡ counts_line (length w.f.cells) (length w.f.events)
+  counts_text = ap₂ counts_line (case_count w) case_events
 
-  pub case_cells : r.table.count ≡ length f.cells
-  case_cells = case_count case_of_lem
-
-  pub case_events : r.run.count ≡ length f.events
-  case_events = ap (λ (u : Case). u.run.count) stored_as
-
-  pub case_few : (r.table.count ≤ 128) × (r.run.count ≤ 128)
-  case_few =
-      let a = accepted_file file f e in
-      let i = case_cells in
-      let j = case_events in
-      let h = a.few_cells in
-      let k = a.few_events in
-      (omega arith, omega arith)
-
-  counts_text : counts_line r.table.count r.run.count ≡ counts_line (length f.cells) (length f.events)
-  counts_text = ap (λ c. counts_line c r.run.count) case_cells ∙ ap (counts_line (length f.cells)) case_events
-
-  pub no_text : counts_line r.table.count r.run.count ++ no_line ≡ no_lines f
+  pub no_text : counts_line r.table.count r.run.count ++ no_line ≡ no_lines w.f
   no_text = ap (λ l. l ++ no_line) counts_text
 
   -- The lines of the table that was read are those of the file's.
-  values_text : Bytes file → (l before list : List ℕ) → length l ≡ length f.cells → list ≡ laid l before → value_lines (table_in r.table.words) list r.table.count ≡ value_lines (table_of f.cells) l (length f.cells)
+  values_text : Bytes file → (l before list : List ℕ) → length l ≡ length w.f.cells → list ≡ laid l before → value_lines (table_in r.table.words) list r.table.count ≡ value_lines (table_of w.f.cells) l (length w.f.cells)
   values_text bytes l before list size i =
       let n = r.table.count in
-      ap (λ (T : Table). value_lines T list n) (case_table case_of_lem bytes) ∙
-      (ap (λ (k : List ℕ). value_lines (table_of f.cells) k n) i ∙
-      (lines_laid (table_of f.cells) l before n (size ∙ sym case_cells) ∙ ap (value_lines (table_of f.cells) l) case_cells))
+      ap (λ (T : Table). value_lines T list n) (case_table w bytes) ∙
+      (ap (λ (k : List ℕ). value_lines (table_of w.f.cells) k n) i ∙
+      (lines_laid (table_of w.f.cells) l before n (size ∙ sym (case_count w)) ∙ ap (value_lines (table_of w.f.cells) l) (case_count w)))
 
-  pub yes_text : Bytes file → (l before list : List ℕ) → length l ≡ length f.cells → list ≡ laid l before →
-      counts_line r.table.count r.run.count ++ (yes_line ++ value_lines (table_in r.table.words) list r.table.count) ≡ yes_lines f l
+  pub yes_text : Bytes file → (l before list : List ℕ) → length l ≡ length w.f.cells → list ≡ laid l before →
+      counts_line r.table.count r.run.count ++ (yes_line ++ value_lines (table_in r.table.words) list r.table.count) ≡ yes_lines w.f l
   yes_text bytes l before list size i =
       ap (λ c. c ++ (yes_line ++ value_lines (table_in r.table.words) list r.table.count)) counts_text ∙
-      ap (λ v. counts_line (length f.cells) (length f.events) ++ (yes_line ++ v)) (values_text bytes l before list size i)
+      ap (λ v. counts_line (length w.f.cells) (length w.f.events) ++ (yes_line ++ v)) (values_text bytes l before list size i)
 
 -- ---- the promise
 

@@ -1,4 +1,4 @@
--- What the run program prints, as bytes (document 01, "Files on both sides of each line"). Each line ends with a line feed.
+-- What the run program prints, as bytes. Each line ends with a line feed.
 -- refused_line, counts_line, yes_line, no_line, value_line, value_lines: the lines; Lines: those of a file's reply.
 use Rattle.std.specs.Prelude.{◌≡◌, cond, List, [], ◌∷◌, ◌++◌, ℕ, zero, suc, eqb, length, get_or}
 use Rattle.model.specs.Case.{Cell, AT, VA, ONE, TWO, File, Table, table_of}

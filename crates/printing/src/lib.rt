@@ -4,13 +4,15 @@
 
 ghost use Rattle.std.specs.Prelude.{◌++◌, ◌+◌, ◌*◌, ◌<◌, ◌≤◌, length};
 ghost use Rattle.model.specs.Stored.{table_in};
+ghost use Rattle.refusals.specs.Numbers.{number_of};
 ghost use Rattle.lines.specs.Put.{Put, told};
 ghost use Rattle.printing.specs.Lines.{value, value_line, line_of, value_lines, refused_line, counts_line, no_line, yes_line};
 ghost use Rattle.printing.specs.Promise.{ReplyPromise};
 
-use cells::{Table, is_variable};
+use casefile::Case;
+use cells::{is_variable, Words};
 use lines::put_text;
-use running::Solved;
+use refusals::Refusal;
 
 // Puts a text and a number below 1,000 behind it.
 fn put_told(text: &[u8], n: usize, at: usize, out: &mut [u8]) -> usize
@@ -21,12 +23,13 @@ fn put_told(text: &[u8], n: usize, at: usize, out: &mut [u8]) -> usize
 }
 
 // Puts the line of a refusal at the front.
-fn put_refusal(number: u8, place: usize, out: &mut [u8]) -> usize
-    requires { (place < 1000) × (1437 ≤ length out.old) }
-    ensures { Put (refused_line number place) out.old 0 out.new result }
+fn put_refusal(refusal: Refusal, out: &mut [u8]) -> usize
+    requires { (refusal.place < 1000) × (1437 ≤ length out.old) }
+    ensures { Put (refused_line (number_of refusal.fault) refusal.place) out.old 0 out.new result }
 {
-    let numbered = put_told(b"refused ", number as usize, 0, out);
-    let placed = put_told(b" at ", place, numbered, out);
+    let number = usize::from(refusal.fault.number());
+    let numbered = put_told(b"refused ", number, 0, out);
+    let placed = put_told(b" at ", refusal.place, numbered, out);
     put_text(b"\n", placed, out)
 }
 
@@ -48,7 +51,7 @@ fn put_entry(entry: u8, at: usize, out: &mut [u8]) -> usize
     if entry == 255 {
         return put_text(b" = own\n", at, out);
     }
-    let named = put_told(b" = ", entry as usize, at, out);
+    let named = put_told(b" = ", usize::from(entry), at, out);
     put_text(b"\n", named, out)
 }
 
@@ -62,24 +65,25 @@ fn put_value(v: usize, entry: u8, at: usize, out: &mut [u8]) -> usize
 }
 
 // Puts the line of the cell v, if it is a variable.
-fn put_line(table: &Table, v: usize, entry: u8, at: usize, out: &mut [u8]) -> usize
+fn put_line(words: &Words, v: usize, entry: u8, at: usize, out: &mut [u8]) -> usize
     requires { (v < 1000) × (at + 11 ≤ length out.old) }
-    ensures { Put (line_of (table_in table.now v) v entry) out.old at out.new result × (result ≤ at + 11) }
+    ensures { Put (line_of (table_in words.now v) v entry) out.old at out.new result × (result ≤ at + 11) }
 {
-    if is_variable(table, v) {
-        return put_value(v, entry, at, out);
+    if is_variable(words, v) {
+        put_value(v, entry, at, out)
+    } else {
+        at
     }
-    at
 }
 
 // Puts one line for each variable of n cells.
-fn put_values(table: &Table, list: &[u8; 128], n: usize, at: usize, out: &mut [u8]) -> usize
+fn put_values(words: &Words, list: &[u8; 128], n: usize, at: usize, out: &mut [u8]) -> usize
     requires { (n ≤ 128) × (at + 11 * n ≤ length out.old) }
-    ensures { Put (value_lines (table_in table.now) list.now n) out.old at out.new result }
+    ensures { Put (value_lines (table_in words.now) list.now n) out.old at out.new result }
 {
     let mut next = at;
     for v in 0..n {
-        next = put_line(table, v, list[v], next, out);
+        next = put_line(words, v, list[v], next, out);
     }
     next
 }
@@ -94,13 +98,13 @@ fn put_no(cells: usize, events: usize, out: &mut [u8]) -> usize
 }
 
 // Puts the counts, "yes" and the values of a list.
-fn put_yes(table: &Table, cells: usize, events: usize, list: &[u8; 128], out: &mut [u8]) -> usize
-    requires { (cells ≤ 128) × (events < 1000) × (1437 ≤ length out.old) }
-    ensures { Put (counts_line cells events ++ (yes_line ++ value_lines (table_in table.now) list.now cells)) out.old 0 out.new result }
+fn put_yes(case: &Case, list: &[u8; 128], out: &mut [u8]) -> usize
+    requires { (case.now.table.count ≤ 128) × (case.now.run.count < 1000) × (1437 ≤ length out.old) }
+    ensures { Put (counts_line case.now.table.count case.now.run.count ++ (yes_line ++ value_lines (table_in case.now.table.words) list.now case.now.table.count)) out.old 0 out.new result }
 {
-    let counted = put_counts(cells, events, out);
+    let counted = put_counts(case.table.count, case.run.count, out);
     let told = put_text(b"run yes\n", counted, out);
-    put_values(table, list, cells, told, out)
+    put_values(&case.table.words, list, case.table.count, told, out)
 }
 
 // Writes the reply to the run of a file, any bytes, to the front of the buffer, and replies how many bytes it has. A buffer of less than 1,437 bytes is left
@@ -112,13 +116,13 @@ pub fn write_reply(file: &[u8], out: &mut [u8]) -> usize
         return 0;
     }
     let mut list = [0u8; 128];
-    let solved = running::run(file, &mut list);
-    let case = casefile::read_case(file);
-    let t = case.table;
-    let e = case.run;
-    match solved {
-        Solved::Refused(number, place) => put_refusal(number, place, out),
-        Solved::No => put_no(t.count, e.count, out),
-        Solved::Yes(n) => put_yes(&t.words, t.count, e.count, &list, out),
+    let case = match casefile::read_case(file) {
+        Ok(case) => case,
+        Err(refusal) => return put_refusal(refusal, out),
+    };
+    match running::run(file, &mut list) {
+        Ok(Some(_)) => put_yes(&case, &list, out),
+        Ok(None) => put_no(case.table.count, case.run.count, out),
+        Err(refusal) => put_refusal(refusal, out),
     }
 }

@@ -1,5 +1,5 @@
 -- The replies to typed text as numbers.
-use mathlib.Core.Path.{Path, ◌≡◌, refl, sym, ◌∙◌, ap, subst}
+use mathlib.Core.Path.{◌≡◌, refl, sym, ◌∙◌, ap, subst}
 use mathlib.Core.Logic.{◌⊎◌, inl, inr}
 use mathlib.Core.List.{List, [], ◌∷◌, ◌++◌}
 use Prim.Native.Nat.{ℕ, suc, ◌+◌, ◌-◌, ◌*◌, ◌^◌, ◌≤◌, ◌<◌}
@@ -23,8 +23,10 @@ use Rattle.refusals.specs.declared.Refusal.{Refusal}
 use Rattle.refusals.specs.Numbers.{number_of, fault_of}
 use Rattle.refusals.proofs.Numbers.{fault_numbered, number_one as fault_one, number_up}
 use Rattle.typing.specs.Reply.{Refused, Written}
-use Rattle.prismfleece.specs.Numbers.{told_place, text_number}
-use Rattle.prismfleece.proofs.Told.{Told, refusal, small, number, Fits, number_one}
+use Rattle.std.specs.Result.{MatchResult, IsErrAnd}
+use Rattle.std.proofs.lemmas.Result.{err_from_is_err_and}
+use Rattle.prismfleece.specs.Numbers.{told_place, told_refusal, text_number, reply_number, bytes_number, Room}
+use Rattle.prismfleece.proofs.Told.{Told, refusal, small, number, Fits, number_one, same_refusal}
 
 abbrev pub told : Result ℕ Refusal → Told
 told (Err e) = refusal (number_of e.fault) (told_place e.place)
@@ -115,9 +117,6 @@ module _ (text : List ℕ) {before after : List ℕ} (r : Result ℕ Refusal) (p
 abbrev Far : Result ℕ Refusal → Result ℕ Refusal → Type 0
 Far r r' = (n : ℕ) × (p : ℕ) × (q : ℕ) × (r ≡ Refused n p) × (r' ≡ Refused n q) × (2 ^ 32 - 1 ≤ p) × (2 ^ 32 - 1 ≤ q)
 
-same_refusal : (x y : Refusal) → x.fault ≡ y.fault → x.place ≡ y.place → Path (Result ℕ Refusal) (Err x) (Err y)
-same_refusal x y f p = ap (λ a. Err (record { fault = a; place = x.place })) f ∙ ap (λ b. Err (record { fault = y.fault; place = b })) p
-
 -- A refusal by the number of its fault is that refusal.
 renumbered : (x : Refusal) (n : ℕ) → n ≡ number_of x.fault → Refused n x.place ≡ Err x
 renumbered x n i = ap (λ k. Refused k x.place) i ∙ ap (λ f. Err (record { fault = f; place = x.place })) (fault_numbered x.fault)
@@ -134,6 +133,23 @@ told_alike (Err x) (Err y) e =
 told_alike (Err x) (Ok m) e = clash (cc)
 told_alike (Ok n) (Err y) e = clash (cc)
 told_alike (Ok n) (Ok m) e = inl (cc)
+
+-- ---- the reply with a refusal's place as it is told
+
+abbrev pub Cut : Result ℕ Refusal → Result ℕ Refusal → Type 0
+Cut r r' = MatchResult r (λ n. r' ≡ Ok n) (λ e. IsErrAnd r' (λ d. d ≡ told_refusal e))
+
+-- A number has room for it,
+pub cut_room : (r r' : Result ℕ Refusal) → Cut r r' → Fits (told r) → Room bytes_number r'
+cut_room (Ok n) r' e h = rw e (omega arith)
+cut_room (Err x) r' k h = let (y, i, j) = err_from_is_err_and r' k in rw (i, j) (omega arith)
+
+-- which is that of the reply.
+pub cut_number : (r r' : Result ℕ Refusal) → Cut r r' → reply_number bytes_number r' ≡ text_number r
+cut_number (Ok n) r' e = rw e refl
+cut_number (Err x) r' k = let (y, i, j) = err_from_is_err_and r' k in rw (i, j) refl
+
+-- ---- what a number tells
 
 module _ (text text' : List ℕ) {before before' after after' : List ℕ} (r r' : Result ℕ Refusal)
     (p : TextReply Refused Written text before r after) (p' : TextReply Refused Written text' before' r' after') where

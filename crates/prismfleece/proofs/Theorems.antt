@@ -5,53 +5,47 @@ use mathlib.Core.List.{List}
 use Prim.Native.Nat.{ℕ, ◌-◌, ◌^◌, ◌≤◌, ◌<◌}
 use lib.ListN.{length, take}
 use Rattle.model.specs.Replies.{EquatedBy, RightListed, SameButList}
-use Rattle.building.specs.declared.Marked.{Marked}
 use Rattle.building.specs.Promise.{MarksPromise}
 use Rattle.building.proofs.Theorems.{build_marks_settled}
-use Rattle.equating.specs.declared.Equated.{Equated}
 use Rattle.equating.specs.Promise.{EquatePromise}
 use Rattle.equating.proofs.Theorems.{equate_settled}
-use Rattle.checking.specs.declared.Judged.{Judged}
-use Rattle.checking.specs.declared.Judged.TheVariants.{Right}
 use Rattle.checking.specs.Promise.{CheckPromise}
 use Rattle.checking.proofs.Theorems.{check_settled}
-use Rattle.reducing.specs.declared.Reduced.{Reduced}
 use Rattle.reducing.specs.Promise.{ReducePromise}
 use Rattle.reducing.proofs.Theorems.{reduce_settled}
-use Rattle.running.specs.declared.Solved.{Solved}
-use Rattle.running.specs.declared.Solved.TheVariants.{Yes}
 use Rattle.running.specs.Promise.{RunPromise}
 use Rattle.running.proofs.Theorems.{run_settled}
 use Rattle.grammar.specs.Text.{TextReply}
 use Rattle.grammar.proofs.Theorems.{reply_settled}
-use Rattle.std.specs.Prelude.{Result}
+use Rattle.std.specs.Prelude.{Bool, true, Option, Some, Result, Ok}
 use Rattle.refusals.specs.declared.Refusal.{Refusal}
 use Rattle.typing.specs.Reply.{Refused, Written}
-use Rattle.prismfleece.specs.Numbers.{equate_number, EquateTold, run_number, RunTold, check_number, CheckTold, marks_number, MarksTold, reduce_number, ReduceTold, text_number, TextTold}
-use Rattle.prismfleece.proofs.EquateLaws.{equate_fits, equate_tells}
-use Rattle.prismfleece.proofs.RunLaws.{run_fits, run_tells, shown_checked}
-use Rattle.prismfleece.proofs.CheckLaws.{check_fits, check_tells}
-use Rattle.prismfleece.proofs.MarksLaws.{marks_fits, marks_tells}
-use Rattle.prismfleece.proofs.ReduceLaws.{reduce_fits, reduce_tells}
+use Rattle.prismfleece.specs.Numbers.{bytes_number, list_number, right_number, equate_number, EquateTold, run_number, RunTold, check_number, CheckTold, marks_number, MarksTold, reduce_number, ReduceTold, text_number, TextTold}
+use Rattle.prismfleece.proofs.Told.{tells, bytes_one, list_one, right_one}
+use Rattle.prismfleece.proofs.EquateLaws.{equate_fits}
+use Rattle.prismfleece.proofs.RunLaws.{run_fits, shown_checked}
+use Rattle.prismfleece.proofs.CheckLaws.{check_fits}
+use Rattle.prismfleece.proofs.MarksLaws.{marks_fits}
+use Rattle.prismfleece.proofs.ReduceLaws.{reduce_fits}
 use Rattle.prismfleece.proofs.TextLaws.{text_tells, text_exact}
 
 -- ---- a number tells its reply: replies to whatever inputs that have one number are one
 
-pub equate_number_one : {file file' : List ℕ} {a a' b b' : ℕ} {before before' after after' : List ℕ} {r r' : Equated} →
+pub equate_number_one : {file file' : List ℕ} {a a' b b' : ℕ} {before before' after after' : List ℕ} {r r' : Result (Option ℕ) Refusal} →
     EquatePromise file a b before r after → EquatePromise file' a' b' before' r' after' → equate_number r ≡ equate_number r' → r ≡ r'
-equate_number_one {r = r} {r' = r'} p p' = equate_tells r r' (equate_fits _ _ _ _ r _ p) (equate_fits _ _ _ _ r' _ p')
+equate_number_one {r = r} {r' = r'} p p' = tells list_number list_one r r' (equate_fits _ _ _ _ r _ p) (equate_fits _ _ _ _ r' _ p')
 
-pub run_number_one : {file file' before before' after after' : List ℕ} {r r' : Solved} → RunPromise file before r after → RunPromise file' before' r' after' → run_number r ≡ run_number r' → r ≡ r'
-run_number_one {r = r} {r' = r'} p p' = run_tells r r' (run_fits _ _ r _ p) (run_fits _ _ r' _ p')
+pub run_number_one : {file file' before before' after after' : List ℕ} {r r' : Result (Option ℕ) Refusal} → RunPromise file before r after → RunPromise file' before' r' after' → run_number r ≡ run_number r' → r ≡ r'
+run_number_one {r = r} {r' = r'} p p' = tells list_number list_one r r' (run_fits _ _ r _ p) (run_fits _ _ r' _ p')
 
-pub check_number_one : {file file' list list' : List ℕ} {r r' : Judged} → CheckPromise file list r → CheckPromise file' list' r' → check_number r ≡ check_number r' → r ≡ r'
-check_number_one {r = r} {r' = r'} p p' = check_tells r r' (check_fits _ _ r p) (check_fits _ _ r' p')
+pub check_number_one : {file file' list list' : List ℕ} {r r' : Result Bool Refusal} → CheckPromise file list r → CheckPromise file' list' r' → check_number r ≡ check_number r' → r ≡ r'
+check_number_one {r = r} {r' = r'} p p' = tells right_number right_one r r' (check_fits _ _ r p) (check_fits _ _ r' p')
 
-pub marks_number_one : {file file' before before' after after' : List ℕ} {r r' : Marked} → MarksPromise file before r after → MarksPromise file' before' r' after' → marks_number r ≡ marks_number r' → r ≡ r'
-marks_number_one {r = r} {r' = r'} p p' = marks_tells r r' (marks_fits _ _ r _ p) (marks_fits _ _ r' _ p')
+pub marks_number_one : {file file' before before' after after' : List ℕ} {r r' : Result ℕ Refusal} → MarksPromise file before r after → MarksPromise file' before' r' after' → marks_number r ≡ marks_number r' → r ≡ r'
+marks_number_one {r = r} {r' = r'} p p' = tells bytes_number bytes_one r r' (marks_fits _ _ r _ p) (marks_fits _ _ r' _ p')
 
-pub reduce_number_one : {file file' before before' after after' : List ℕ} {r r' : Reduced} → ReducePromise file before r after → ReducePromise file' before' r' after' → reduce_number r ≡ reduce_number r' → r ≡ r'
-reduce_number_one {r = r} {r' = r'} p p' = reduce_tells r r' (reduce_fits _ _ r _ p) (reduce_fits _ _ r' _ p')
+pub reduce_number_one : {file file' before before' after after' : List ℕ} {r r' : Result ℕ Refusal} → ReducePromise file before r after → ReducePromise file' before' r' after' → reduce_number r ≡ reduce_number r' → r ≡ r'
+reduce_number_one {r = r} {r' = r'} p p' = tells bytes_number bytes_one r r' (reduce_fits _ _ r _ p) (reduce_fits _ _ r' _ p')
 
 -- Of a typed text but for places of 2 ^ 32 - 1 or more,
 pub text_number_one : {text text' before before' after after' : List ℕ} {r r' : Result ℕ Refusal} →
@@ -88,5 +82,5 @@ text_number_settled (r, p, e) (r', p', e') = let (i, s) = reply_settled Refused 
 -- ---- the run and the list check
 
 -- The list that a run shows is called right by the list check.
-pub run_list_checked : {file before after : List ℕ} {n : ℕ} {judged : Judged} → RunPromise file before (Yes n) after → CheckPromise file (take n after) judged → judged ≡ Right
+pub run_list_checked : {file before after : List ℕ} {n : ℕ} {judged : Result Bool Refusal} → RunPromise file before (Ok (Some n)) after → CheckPromise file (take n after) judged → judged ≡ Ok true
 run_list_checked = shown_checked

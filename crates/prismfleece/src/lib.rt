@@ -5,30 +5,49 @@
 #![tactic(auto)]
 
 ghost use Rattle.std.specs.Prelude.{◌≡◌, ◌<◌, ◌^◌};
-ghost use Rattle.prismfleece.specs.Numbers.{refusal_number, told_place, EquateTold, RunTold, CheckTold, MarksTold, ReduceTold, TextTold};
+ghost use Rattle.refusals.specs.Numbers.{number_of};
+ghost use Rattle.prismfleece.specs.Numbers.{refusal_number, reply_number, Room, bytes_number, list_number, told_refusal, EquateTold, RunTold, CheckTold, MarksTold, ReduceTold, TextTold};
 
-use building::Marked;
-use checking::Judged;
-use equating::Equated;
-use reducing::Reduced;
-use running::Solved;
+use refusals::Refusal;
 
-// The number of a refusal.
-fn refusal(number: u8, place: usize) -> u64
-    requires { place < 2 ^ 32 }
-    ensures { result ≡ refusal_number number place }
+// A refusal as a number.
+fn refusal(refused: Refusal) -> u64
+    requires { refused.place < 2 ^ 32 }
+    ensures { result ≡ refusal_number (number_of refused.fault) refused.place }
 {
-    number as u64 * 4294967296 + place as u64
+    u64::from(refused.fault.number()) * 4294967296 + refused.place as u64
 }
 
-// A place in a text as it is told.
-fn told_place(place: usize) -> usize
-    ensures { result ≡ told_place place }
+// A reply of so many bytes as a number.
+fn written(reply: Result<usize, Refusal>) -> u64
+    requires { Room bytes_number reply }
+    ensures { result ≡ reply_number bytes_number reply }
 {
-    if place < 4294967295 {
-        place
-    } else {
-        4294967295
+    match reply {
+        Err(refused) => refusal(refused),
+        Ok(n) => n as u64 + 1,
+    }
+}
+
+// A reply of a list of so many bytes, or "no", as a number.
+fn listed(reply: Result<Option<usize>, Refusal>) -> u64
+    requires { Room list_number reply }
+    ensures { result ≡ reply_number list_number reply }
+{
+    match reply {
+        Err(refused) => refusal(refused),
+        Ok(None) => 0,
+        Ok(Some(n)) => n as u64 + 1,
+    }
+}
+
+// A refusal of a text with its place as it is told.
+fn cut_place(refused: Refusal) -> Refusal
+    ensures { result ≡ told_refusal refused }
+{
+    Refusal {
+        place: refused.place.min(4294967295),
+        ..refused
     }
 }
 
@@ -37,12 +56,7 @@ fn told_place(place: usize) -> usize
 pub extern "C" fn prismfleece_equate(file: &[u8], a: usize, b: usize, out: &mut [u8]) -> u64
     ensures { EquateTold file.now a b out.old result out.new }
 {
-    let reply = equating::equate(file, a, b, out);
-    match reply {
-        Equated::Refused(number, place) => refusal(number, place),
-        Equated::No => 0,
-        Equated::Listed(n) => n as u64 + 1,
-    }
+    listed(equating::equate(file, a, b, out))
 }
 
 // Run: a right value list in `out`, or "no".
@@ -50,12 +64,7 @@ pub extern "C" fn prismfleece_equate(file: &[u8], a: usize, b: usize, out: &mut 
 pub extern "C" fn prismfleece_run(file: &[u8], out: &mut [u8]) -> u64
     ensures { RunTold file.now out.old result out.new }
 {
-    let reply = running::run(file, out);
-    match reply {
-        Solved::Refused(number, place) => refusal(number, place),
-        Solved::No => 0,
-        Solved::Yes(n) => n as u64 + 1,
-    }
+    listed(running::run(file, out))
 }
 
 // List check: is the value list right?
@@ -63,11 +72,9 @@ pub extern "C" fn prismfleece_run(file: &[u8], out: &mut [u8]) -> u64
 pub extern "C" fn prismfleece_check(file: &[u8], list: &[u8]) -> u64
     ensures { CheckTold file.now list.now result }
 {
-    let reply = checking::check(file, list);
-    match reply {
-        Judged::Refused(number, place) => refusal(number, place),
-        Judged::Wrong => 0,
-        Judged::Right => 1,
+    match checking::check(file, list) {
+        Err(refused) => refusal(refused),
+        Ok(right) => u64::from(right),
     }
 }
 
@@ -76,11 +83,7 @@ pub extern "C" fn prismfleece_check(file: &[u8], list: &[u8]) -> u64
 pub extern "C" fn prismfleece_marks(file: &[u8], out: &mut [u8]) -> u64
     ensures { MarksTold file.now out.old result out.new }
 {
-    let reply = building::build_marks(file, out);
-    match reply {
-        Marked::Refused(number, place) => refusal(number, place),
-        Marked::Marks(n) => n as u64 + 1,
-    }
+    written(building::build_marks(file, out))
 }
 
 // Reducing: the reduced file in `out`.
@@ -88,11 +91,7 @@ pub extern "C" fn prismfleece_marks(file: &[u8], out: &mut [u8]) -> u64
 pub extern "C" fn prismfleece_reduce(file: &[u8], out: &mut [u8]) -> u64
     ensures { ReduceTold file.now out.old result out.new }
 {
-    let reply = reducing::reduce(file, out);
-    match reply {
-        Reduced::Refused(number, place) => refusal(number, place),
-        Reduced::Reduced(n) => n as u64 + 1,
-    }
+    written(reducing::reduce(file, out))
 }
 
 // Typed text: its case file in `out`.
@@ -100,8 +99,5 @@ pub extern "C" fn prismfleece_reduce(file: &[u8], out: &mut [u8]) -> u64
 pub extern "C" fn prismfleece_text(text: &[u8], out: &mut [u8]) -> u64
     ensures { TextTold text.now out.old result out.new }
 {
-    match typing::read_text(text, out) {
-        Err(refused) => refusal(refused.fault.number(), told_place(refused.place)),
-        Ok(n) => n as u64 + 1,
-    }
+    written(typing::read_text(text, out).map_err(cut_place))
 }

@@ -1,7 +1,6 @@
 // The heights of the messages that the cells show.
 ghost use Rattle.std.specs.Prelude.{◌≡◌, ℕ, ◌<◌, get_or};
 ghost use Rattle.model.specs.Stored.{table_in};
-ghost use Rattle.theory.specs.Cells.{TableWords};
 ghost use Rattle.cells.specs.Cells.{as_cell};
 ghost use Rattle.reducing.specs.Bare.{height_at, Heights};
 
@@ -27,13 +26,13 @@ fn height_of(k: Cell, heights: &[u8; 129]) -> u8
 }
 
 // The heights of the messages that the cells show.
-pub fn heights(table: &Table, n: usize) -> [u8; 129]
-    requires { TableWords n table.now }
-    ensures { Heights (table_in table.now) n result }
+pub fn heights(table: &Table) -> [u8; 129]
+    ensures { Heights (table_in table.now.words) table.now.count result }
 {
+    let n = table.count;
     let mut high: [u8; 129] = [0; 129];
     for c in 0..n {
-        high[c] = height_of(cell_at(table, c), &high);
+        high[c] = height_of(cell_at(&table.words, c), &high);
     }
     high
 }

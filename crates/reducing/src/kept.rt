@@ -41,13 +41,14 @@ fn is_bare(c: usize, n: usize, k: Cell, rep: &[u8; 129], built: &[u8; 129]) -> b
 }
 
 // The marks on the bare cells except name 0, one of each class.
-pub fn bare(table: &Table, n: usize, rep: &[u8; 129], built: &[u8; 129]) -> [u8; 129]
-    requires { Given n table.now rep.now }
-    ensures { Bares (table_in table.now) rep.now built.now n result }
+pub fn bare(table: &Table, rep: &[u8; 129], built: &[u8; 129]) -> [u8; 129]
+    requires { Given table.now.count table.now.words rep.now }
+    ensures { Bares (table_in table.now.words) rep.now built.now table.now.count result }
 {
+    let n = table.count;
     let mut marks: [u8; 129] = [0; 129];
     for c in 0..n {
-        if is_bare(c, n, cell_at(table, c), rep, built) {
+        if is_bare(c, n, cell_at(&table.words, c), rep, built) {
             marks[c] = 1;
         }
     }
@@ -78,14 +79,15 @@ fn mark_parts(marks: &mut [u8; 129], k: Cell, rep: &[u8; 129])
 }
 
 // The marks on the bare cells and on all that stands in them, from the last cell down.
-pub fn keep(table: &Table, n: usize, rep: &[u8; 129], bare: &[u8; 129]) -> [u8; 129]
-    requires { Given n table.now rep.now × ((c : ℕ) → On bare.now c → c < n) }
-    ensures { Keeps (table_in table.now) rep.now bare.now n result }
+pub fn keep(table: &Table, rep: &[u8; 129], bare: &[u8; 129]) -> [u8; 129]
+    requires { Given table.now.count table.now.words rep.now × ((c : ℕ) → On bare.now c → c < table.now.count) }
+    ensures { Keeps (table_in table.now.words) rep.now bare.now table.now.count result }
 {
+    let n = table.count;
     let mut marks = *bare;
     for c in (0..n).rev() {
         if marks[c] == 1 {
-            mark_parts(&mut marks, cell_at(table, c), rep);
+            mark_parts(&mut marks, cell_at(&table.words, c), rep);
         }
     }
     marks

@@ -11,7 +11,7 @@ mod write; // bytes
 ghost use Rattle.std.specs.Prelude.{◌++◌, ◌≡◌, ◌+◌, ◌*◌, ◌≤◌, length, drop};
 ghost use Rattle.model.specs.Format.{file_bytes};
 ghost use Rattle.model.specs.Stored.{table_in, run_in};
-ghost use Rattle.theory.specs.Cells.{TableWords, RunWords};
+ghost use Rattle.theory.specs.Cells.{RunWords};
 ghost use Rattle.reducing.specs.Given.{Given, Solid};
 ghost use Rattle.reducing.specs.Plan.{planned, Sized, Plans, PlansRun};
 ghost use Rattle.reducing.specs.Promise.{ReducePromise};
@@ -29,28 +29,27 @@ struct Plan {
 }
 
 // The plan of the reduced file of a table without variables, from the classes of its cells and the built marks.
-fn make_plan(table: &Table, n: usize, rep: &[u8; 129], built: &[u8; 129]) -> Plan
-    requires { Given n table.now rep.now }
+fn make_plan(table: &Table, rep: &[u8; 129], built: &[u8; 129]) -> Plan
+    requires { Given table.now.count table.now.words rep.now }
     ensures sized { Sized result }
-    ensures reduced { Plans (table_in table.now) rep.now built.now result }
+    ensures reduced { Plans (table_in table.now.words) rep.now built.now result }
 {
-    let bares = kept::bare(table, n, rep, built);
-    let kept = kept::keep(table, n, rep, &bares);
-    let high = height::heights(table, n);
-    let numbers = order::order(table, n, rep, &high, &kept);
-    rows::lay(table, rep, &numbers, &bares)
+    let bares = kept::bare(table, rep, built);
+    let kept = kept::keep(table, rep, &bares);
+    let high = height::heights(table);
+    let numbers = order::order(table, rep, &high, &kept);
+    rows::lay(&table.words, rep, &numbers, &bares)
 }
 
 // The plan of the reduced file of a table without variables and of its events.
-fn plan_run(table: &Table, n: usize, run: &Run, count: usize) -> Plan
-    requires table_words { TableWords n table.now }
-    requires solid { Solid table.now }
-    requires run_words { RunWords n run.now count }
+fn plan_run(table: &Table, run: &Run, count: usize) -> Plan
+    requires solid { Solid table.now.words }
+    requires run_words { RunWords table.now.count run.now count }
     ensures sized { Sized result }
-    ensures reduced { PlansRun (table_in table.now) (run_in count run.now) result }
+    ensures reduced { PlansRun (table_in table.now.words) (run_in count run.now) result }
 {
-    let k = knowledge::heard::open_heard(table, n, run, count);
-    make_plan(table, n, &k.rep, &k.built)
+    let k = knowledge::heard::open_heard(table, run, count);
+    make_plan(table, &k.rep, &k.built)
 }
 
 // How many bytes the reduced file takes.
@@ -81,12 +80,7 @@ pub fn reduce(file: &[u8], out: &mut [u8]) -> Result<usize, Refusal>
             place,
         });
     }
-    let plan = plan_run(
-        &case.table.words,
-        case.table.count,
-        &case.run.words,
-        case.run.count,
-    );
+    let plan = plan_run(&case.table, &case.run.words, case.run.count);
     let length = needed(&plan);
     if out.len() < length {
         return Err(Refusal {

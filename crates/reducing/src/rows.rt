@@ -6,7 +6,7 @@ ghost use Rattle.reducing.specs.Plan.{empty_plan, put_row, Laid};
 
 use super::Plan;
 use super::order::{Numbers, renumbered};
-use cells::{Table, cell_at, word_of};
+use cells::{cell_at, word_of, Words};
 
 // The plan without cells.
 fn empty_plan() -> Plan
@@ -32,15 +32,15 @@ fn put_row(plan: &mut Plan, word: u32, b: u8)
 }
 
 // The numbered cells, in the new numbers.
-pub fn lay(table: &Table, rep: &[u8; 129], numbers: &Numbers, bare: &[u8; 129]) -> Plan
-    requires low_classes { LowClasses rep.now × ((c : ℕ) → LowParts (table_in table.now c)) }
+pub fn lay(words: &Words, rep: &[u8; 129], numbers: &Numbers, bare: &[u8; 129]) -> Plan
+    requires low_classes { LowClasses rep.now × ((c : ℕ) → LowParts (table_in words.now c)) }
     requires count_bound { (numbers.now.count ≤ 128) × ((j : ℕ) → j < numbers.now.count → get_or numbers.now.old j 0 < 128) }
-    ensures { Laid table.now rep.now numbers.now.old numbers.now.new bare.now numbers.now.count result }
+    ensures { Laid words.now rep.now numbers.now.old numbers.now.new bare.now numbers.now.count result }
 {
     let mut plan = empty_plan();
     for i in 0..numbers.count {
         let c = usize::from(numbers.old[i]);
-        let k = renumbered(cell_at(table, c), rep, &numbers.new);
+        let k = renumbered(cell_at(words, c), rep, &numbers.new);
         put_row(&mut plan, word_of(k), bare[c]);
     }
     plan

@@ -2,44 +2,25 @@
 
 #![tactic(auto)]
 
-ghost use Rattle.std.specs.Prelude.{◌≡◌, ◌≤◌, length, take};
-ghost use Rattle.model.specs.Replies.{laid};
 ghost use Rattle.running.specs.Promise.{RunPromise};
 
-use casefile::events::Verdict;
+use refusals::{Fault, Refusal};
 
-// The reply: a refusal with its number and place, "no", or the number of bytes written.
-#[derive(Clone, Copy)]
-pub enum Solved {
-    Refused(u8, usize),
-    No,
-    Yes(usize),
-}
-
-// Lays the first n bytes of a list at the front of the buffer.
-fn write_list(list: &[u8; 128], n: usize, out: &mut [u8])
-    requires { (n ≤ 128) × (n ≤ length out.old) }
-    ensures { out.new ≡ laid (take n list.now) out.old }
-{
-    out[..n].copy_from_slice(&list[..n]);
-}
-
-// Reads a case file and answers its run: any bytes, any buffer.
-pub fn run(file: &[u8], out: &mut [u8]) -> Solved
+// Reads a case file and answers its run, any bytes, any buffer: the number of bytes written, none for "no", or a refusal.
+pub fn run(file: &[u8], out: &mut [u8]) -> Result<Option<usize>, Refusal>
     ensures { RunPromise file.now out.old result out.new }
 {
-    let read = casefile::read_case(file);
-    if let Verdict::Refused(number, place) = read.verdict {
-        return Solved::Refused(number, place);
-    }
-    let n = read.table.count;
+    let case = casefile::read_case(file)?;
+    let n = case.table.count;
     if out.len() < n {
-        return Solved::Refused(9, n);
+        return Err(Refusal {
+            fault: Fault::ShortBuffer,
+            place: n,
+        });
     }
-    let Some(list) = solving::search::solve(&read.table.words, n, &read.run.words, read.run.count)
-    else {
-        return Solved::No;
+    let Some(list) = solving::search::solve(&case.table, &case.run.words, case.run.count) else {
+        return Ok(None);
     };
-    write_list(&list, n, out);
-    Solved::Yes(n)
+    out[..n].copy_from_slice(&list[..n]);
+    Ok(Some(n))
 }

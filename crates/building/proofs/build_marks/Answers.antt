@@ -10,14 +10,11 @@ use Rattle.building.proofs.build_marks.Goals as goal
 
 pub open_heard-known-requires : goal.open_heard-known-requires
 open_heard-known-requires c =
-    let every : Bytes c.args.file.now = λ i. omega (arith, c.type_inv.file i) in
-    let w = case_accepted c.args.file.now _ c.in_ok-case.ensures c.in_ok-case.case refl in
-    record { table_words = case_words w every; run_words = case_events w }
+    record { run_words = c.in_ok-case.case.listed }
 
 pub lay_marks-requires : goal.lay_marks-requires
 lay_marks-requires c =
-    let every : Bytes c.args.file.now = λ i. omega (arith, c.type_inv.file i) in
-    let words = case_words (case_accepted c.args.file.now _ c.in_ok-case.ensures c.in_ok-case.case refl) every in
+    let words = c.in_ok-case.case.table.formed in
     record { n_bound = words.few; by_index = (kept_row words c.open_heard-known.ensures.classes.solved.kept).low; n_in_bounds = c.if-out-n.false }
 
 pub returns : goal.returns

@@ -7,4 +7,4 @@ use Rattle.equating.specs.Entries.{list_of}
 use Rattle.equating.proofs.write_list.Given as goal
 
 abbrev pub invariant-loop-i : goal.invariant-loop-i
-invariant-loop-i l = (l.out ≡ list_of (table_in l.table) l.rep l.i ++ drop l.i l.initial.out) × (length l.out ≡ length l.initial.out)
+invariant-loop-i l = (l.out ≡ list_of (table_in l.words) l.rep l.i ++ drop l.i l.initial.out) × (length l.out ≡ length l.initial.out)

@@ -9,4 +9,4 @@ use Rattle.printing.proofs.put_values.Given as goal
 
 abbrev pub invariant-loop-v : goal.invariant-loop-v
 invariant-loop-v l =
-    (l.v ≤ l.n) × Put (value_lines (table_in l.table) l.list l.v) l.initial.out l.at l.out l.next × (l.next ≤ l.at + 11 * l.v) × (length l.out ≡ length l.initial.out) × (l.at + 11 * l.n ≤ length l.initial.out) × (l.n ≤ 128)
+    (l.v ≤ l.n) × Put (value_lines (table_in l.words) l.list l.v) l.initial.out l.at l.out l.next × (l.next ≤ l.at + 11 * l.v) × (length l.out ≡ length l.initial.out) × (l.at + 11 * l.n ≤ length l.initial.out) × (l.n ≤ 128)

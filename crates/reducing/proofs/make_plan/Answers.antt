@@ -6,14 +6,14 @@ pub order-numbers-requires : goal.order-numbers-requires
 order-numbers-requires c = (
   c.requires,
   c.heights-high.ensures,
-  keeps_whole c.args.n c.args.table.now c.args.rep.now c.args.built.now c.bare-bares.result c.keep-kept.result c.requires c.bare-bares.ensures c.keep-kept.ensures,
+  keeps_whole c.args.table.now.count c.args.table.now.words c.args.rep.now c.args.built.now c.bare-bares.result c.keep-kept.result c.requires c.bare-bares.ensures c.keep-kept.ensures,
 )
 
 pub returns : goal.returns
 returns c =
     record {
-      sized = plan_sized c.args.n c.args.table.now c.args.rep.now c.args.built.now c.bare-bares.result c.keep-kept.result c.requires c.bare-bares.ensures c.keep-kept.ensures
+      sized = plan_sized c.args.table.now.count c.args.table.now.words c.args.rep.now c.args.built.now c.bare-bares.result c.keep-kept.result c.requires c.bare-bares.ensures c.keep-kept.ensures
           c.order-numbers.result.old c.order-numbers.result.new c.order-numbers.result.count c.lay.result c.order-numbers.ensures c.lay.ensures;
-      reduced = plan_reduced c.args.n c.args.table.now c.args.rep.now c.args.built.now c.bare-bares.result c.keep-kept.result c.requires c.bare-bares.ensures c.keep-kept.ensures
+      reduced = plan_reduced c.args.table.now.count c.args.table.now.words c.args.rep.now c.args.built.now c.bare-bares.result c.keep-kept.result c.requires c.bare-bares.ensures c.keep-kept.ensures
           c.order-numbers.result.old c.order-numbers.result.new c.order-numbers.result.count c.lay.result c.order-numbers.ensures c.lay.ensures;
     }

@@ -9,7 +9,7 @@ pub plan_run-plan-requires : goal.plan_run-plan-requires
 plan_run-plan-requires c =
     let fits : Bytes c.args.file.now = λ i. omega (arith, c.type_inv.file i) in
     let w = case_accepted c.args.file.now c.read_case.result c.read_case.ensures c.in_ok-case.case c.in_ok-case.was in
-    record { table_words = case_words w fits; solid = case_solid w fits c.in_default.is; run_words = case_events w }
+    record { solid = case_solid w fits c.in_default.is; run_words = case_events w }
 
 pub returns-then-out-length : goal.returns-then-out-length
 returns-then-out-length c =

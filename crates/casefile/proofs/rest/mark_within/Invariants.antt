@@ -4,7 +4,7 @@ use Rattle.casefile.proofs.WithinLaws.{Descent}
 use Rattle.casefile.proofs.rest.mark_within.Given as goal
 
 abbrev pub invariant-loop-i : goal.invariant-loop-i
-invariant-loop-i l = Descent (table_in l.table) l.c l.initial.marks l.i l.marks
+invariant-loop-i l = Descent (table_in l.table.words) l.c l.initial.marks l.i l.marks
 
 abbrev pub decreases-loop-i : goal.decreases-loop-i
 decreases-loop-i l = l.i

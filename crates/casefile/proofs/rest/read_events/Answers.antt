@@ -9,27 +9,27 @@ pub loop-fault-init : goal.loop-fault-init
 loop-fault-init c = (
   omega arith,
   (let e = ap (λ w. w.count) c.new-run.ensures in omega arith),
-  λ file cells h. events_start c.args.rest.now c.args.base c.args.t.now file cells h _ c.new-run.ensures,
+  λ file cells h. events_start c.args.rest.now c.args.base c.args.table.now file cells h _ c.new-run.ensures,
 )
 
 pub returns-in-Err : goal.returns-in-Err
 returns-in-Err c =
-    λ file cells h. events_refused c.args.rest.now c.args.base c.args.t.now file cells h c.requires.count_bound c.loop-fault.at c.loop-fault.run c.loop-fault.made (c.loop-fault.invariant.2 file cells h) _ c.in-Err.ensures
+    λ file cells h. events_refused c.args.rest.now c.args.base c.args.table.now file cells h c.loop-fault.at c.loop-fault.run c.loop-fault.made (c.loop-fault.invariant.2 file cells h) _ c.in-Err.ensures
 
 pub returns-then-rest-at-gt2 : goal.returns-then-rest-at-gt2
 returns-then-rest-at-gt2 c =
-    λ file cells h. events_trailing c.args.rest.now c.args.base c.args.t.now file cells h c.requires.count_bound c.loop-fault.at c.loop-fault.run c.loop-fault.made (c.loop-fault.invariant.2 file cells h)
+    λ file cells h. events_trailing c.args.rest.now c.args.base c.args.table.now file cells h c.loop-fault.at c.loop-fault.run c.loop-fault.made (c.loop-fault.invariant.2 file cells h)
     (rw c.in-Ok-None.field-0-is at c.in-Ok-None.ensures) c.if-rest-at-gt2.true
 
 pub returns-in-Ok-None : goal.returns-in-Ok-None
 returns-in-Ok-None c =
-    λ file cells h. events_end c.args.rest.now c.args.base c.args.t.now file cells h c.requires.count_bound c.loop-fault.at c.loop-fault.run c.loop-fault.made (c.loop-fault.invariant.2 file cells h)
+    λ file cells h. events_end c.args.rest.now c.args.base c.args.table.now file cells h c.loop-fault.at c.loop-fault.run c.loop-fault.made (c.loop-fault.invariant.2 file cells h)
     (rw c.in-Ok-None.field-0-is at c.in-Ok-None.ensures) c.if-rest-at-gt2.false
 
 pub returns-then-shows_loose : goal.returns-then-shows_loose
 returns-then-shows_loose c =
-    λ file cells h. events_loose c.args.rest.now c.args.base c.args.t.now file cells h c.requires.count_bound c.loop-fault.at c.loop-fault.run c.loop-fault.made (c.loop-fault.invariant.2 file cells h)
-    c.requires.lower _ (rw c.in-Ok-Some.field-0-is at c.in-Ok-Some.ensures) (c.shows_loose.ensures.yes c.if-shows_loose.true)
+    λ file cells h. events_loose c.args.rest.now c.args.base c.args.table.now file cells h c.loop-fault.at c.loop-fault.run c.loop-fault.made (c.loop-fault.invariant.2 file cells h)
+    _ (rw c.in-Ok-Some.field-0-is at c.in-Ok-Some.ensures) (c.shows_loose.ensures.yes c.if-shows_loose.true)
 
 pub loop-fault-preserved : goal.loop-fault-preserved
 loop-fault-preserved c =
@@ -40,6 +40,6 @@ loop-fault-preserved c =
       omega (arith, length-drop c.loop-fault.at c.args.rest.now),
       omega arith,
       λ file cells h. rw (c.push.ensures, c.event_word.ensures)
-          (events_next c.args.rest.now c.args.base c.args.t.now file cells h c.requires.count_bound c.loop-fault.at c.loop-fault.run c.loop-fault.made (c.loop-fault.invariant.2 file cells h)
-          c.requires.lower _ f (c.shows_loose.ensures.no c.if-shows_loose.false) c.mark_made.new.made c.mark_made.ensures),
+          (events_next c.args.rest.now c.args.base c.args.table.now file cells h c.loop-fault.at c.loop-fault.run c.loop-fault.made (c.loop-fault.invariant.2 file cells h)
+          _ f (c.shows_loose.ensures.no c.if-shows_loose.false) c.mark_made.new.made c.mark_made.ensures),
     )

@@ -9,7 +9,7 @@ use Rattle.casefile.proofs.rest.read_events.Given as goal
 
 abbrev pub invariant-loop-fault : goal.invariant-loop-fault
 invariant-loop-fault l =
-    (l.at ≤ length l.rest) × (l.run.count ≤ 128) × ((file : List ℕ) (cells : List Cell) → Context l.rest l.base l.t file cells → EventsSoFar l.base file cells l.at l.run l.made)
+    (l.at ≤ length l.rest) × (l.run.count ≤ 128) × ((file : List ℕ) (cells : List Cell) → Context l.rest l.base l.table file cells → EventsSoFar l.base file cells l.at l.run l.made)
 
 abbrev pub decreases-loop-fault : goal.decreases-loop-fault
 decreases-loop-fault l = 128 - l.run.count

@@ -5,5 +5,5 @@ use Rattle.checking.proofs.follow.bind_entry.Goals as goal
 
 pub returns : goal.returns
 returns c =
-    binds_join c.args.n (table_in c.args.table.now) c.args.rep c.args.c c.args.x c.join.result (rw c.from.ensures at (c.is_variable.ensures.yes c.if-not-is_variable.false))
+    binds_join c.args.table.now.count (table_in c.args.table.now.words) c.args.rep c.args.c c.args.x c.join.result (rw c.from.ensures at (c.is_variable.ensures.yes c.if-not-is_variable.false))
     c.join.ensures

@@ -10,9 +10,9 @@ loop-c-init c = gathering_none _ _ _ _ c.start-rep.ensures
 
 pub loop-c-preserved : goal.loop-c-preserved
 loop-c-preserved c =
-    gathering_more c.args.n (table_in c.args.table.now) c.args.list.now c.loop-c.rep c.loop-c.c c.loop-c.invariant c.bind_entry-bound.result c.bind_entry-bound.ensures
+    gathering_more c.args.table.now.count (table_in c.args.table.now.words) c.args.list.now c.loop-c.rep c.loop-c.c c.loop-c.invariant c.bind_entry-bound.result c.bind_entry-bound.ensures
 
 pub returns : goal.returns
 returns c =
-    gathering_all c.args.n (table_in c.args.table.now) c.args.list.now c.loop-c.rep c.loop-c.c c.loop-c.invariant
-    (λ v i. let h = rows_var c.requires.table_words v i in omega arith)
+    gathering_all c.args.table.now.count (table_in c.args.table.now.words) c.args.list.now c.loop-c.rep c.loop-c.c c.loop-c.invariant
+    (λ v i. let h = rows_var c.args.table.now.formed v i in omega arith)

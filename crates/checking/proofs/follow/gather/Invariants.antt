@@ -4,4 +4,4 @@ use Rattle.checking.proofs.FollowLaws.{Gathering}
 use Rattle.checking.proofs.follow.gather.Given as goal
 
 abbrev pub invariant-loop-c : goal.invariant-loop-c
-invariant-loop-c l = Gathering l.n (table_in l.table) l.list l.rep l.c
+invariant-loop-c l = Gathering l.table.count (table_in l.table.words) l.list l.rep l.c

@@ -11,6 +11,6 @@ use Rattle.checking.proofs.form.first_bad.Goals as goal
 
 pub returns : goal.returns
 returns c =
-    first_bad (table_in c.args.table.now) c.args.n c.args.list.now c.find.result (first_from_Range _ _ _ c.find.result (λ (d : ℕ). Entry (table_in c.args.table.now) c.args.n d (get_or c.args.list.now d 0) → ⊥)
-    (λ (d : ℕ). Entry (table_in c.args.table.now) c.args.n d (get_or c.args.list.now d 0)) c.find.ensures.ran
+    first_bad (table_in c.args.table.now.words) c.args.table.now.count c.args.list.now c.find.result (first_from_Range _ _ _ c.find.result (λ (d : ℕ). Entry (table_in c.args.table.now.words) c.args.table.now.count d (get_or c.args.list.now d 0) → ⊥)
+    (λ (d : ℕ). Entry (table_in c.args.table.now.words) c.args.table.now.count d (get_or c.args.list.now d 0)) c.find.ensures.ran
     (λ x q k. search (rules, tests)) (λ x q k. search (rules, tests)))

@@ -4,4 +4,4 @@ use Rattle.reducing.proofs.HeightLaws.{Climbed}
 use Rattle.reducing.proofs.height.heights.Given as goal
 
 abbrev pub invariant-loop-c : goal.invariant-loop-c
-invariant-loop-c l = Climbed (table_in l.table) l.c l.high
+invariant-loop-c l = Climbed (table_in l.table.words) l.c l.high

@@ -10,11 +10,11 @@ use Rattle.reducing.proofs.kept.bare.Goals as goal
 use Rattle.reducing.proofs.kept.bare.Goals.{then-is_bare, else-is_bare}
 
 pub loop-c-init : goal.loop-c-init
-loop-c-init c = marks_none (λ i. IsBare c.args.rep.now c.args.built.now i (table_in c.args.table.now i))
+loop-c-init c = marks_none (λ i. IsBare c.args.rep.now c.args.built.now i (table_in c.args.table.now.words i))
 
 pub loop-c-preserved : goal.loop-c-preserved
 loop-c-preserved c =
-    let P : ℕ → Type 0 = λ i. IsBare c.args.rep.now c.args.built.now i (table_in c.args.table.now i) in
+    let P : ℕ → Type 0 = λ i. IsBare c.args.rep.now c.args.built.now i (table_in c.args.table.now.words i) in
     let x = c.loop-c.c in
     let tells : Decides c.is_bare.result (P x) = subst (λ k. Decides c.is_bare.result (IsBare c.args.rep.now c.args.built.now x k)) c.cell_at.ensures c.is_bare.ensures in
     elim c.if-is_bare.branch [

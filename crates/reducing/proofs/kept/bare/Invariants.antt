@@ -4,4 +4,4 @@ use Rattle.reducing.specs.Bare.{Bares}
 use Rattle.reducing.proofs.kept.bare.Given as goal
 
 abbrev pub invariant-loop-c : goal.invariant-loop-c
-invariant-loop-c l = Bares (table_in l.table) l.rep l.built l.c l.marks
+invariant-loop-c l = Bares (table_in l.table.words) l.rep l.built l.c l.marks

@@ -5,4 +5,4 @@ use Rattle.reducing.specs.Plan.{Laid}
 use Rattle.reducing.proofs.rows.lay.Given as goal
 
 abbrev pub invariant-loop-i : goal.invariant-loop-i
-invariant-loop-i l = Laid l.table l.rep l.numbers.old l.numbers.new l.bare l.i l.plan × (length l.bare ≡ 129)
+invariant-loop-i l = Laid l.words l.rep l.numbers.old l.numbers.new l.bare l.i l.plan × (length l.bare ≡ 129)
