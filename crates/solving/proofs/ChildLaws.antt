@@ -1,7 +1,6 @@
 -- The next pair that can be made equal, with the classes that it gives.
-use mathlib.Core.Path.{◌≡◌, refl, sym, ◌∙◌, ap}
+use mathlib.Core.Path.{◌≡◌, sym, ◌∙◌, ap}
 use mathlib.Core.Logic.{◌⊎◌, inl, inr}
-use mathlib.Core.Bool.{true, true≢false}
 use mathlib.Core.List.{List}
 use Prim.Native.Nat.{ℕ, ◌+◌, ◌≤◌, ◌<◌}
 use native.Mathlib.Omega.{arith}
@@ -9,23 +8,21 @@ use native.Mathlib.Decide.{dec_lt}
 use Rattle.std.specs.Prelude.{Some, None}
 use Rattle.model.specs.Case.{Table}
 use Rattle.theory.specs.Cells.{class_at}
-use Rattle.classes.specs.declared.Settled.{Settled}
 use Rattle.classes.specs.Kept.{Never}
-use Rattle.classes.specs.Settle.{Unifies}
+use Rattle.classes.specs.Settle.{Unified}
 use Rattle.classes.specs.Upward.{Raised}
 use Rattle.granting.specs.declared.Place.{Place}
-use Rattle.solving.specs.Pairs.{Pairs, place, NextPair, Joined, ChildOf}
+use Rattle.solving.specs.Pairs.{Pairs, place, NextPair, ChildOf}
 
 -- ---- one pair
 
 -- Classes that are closed upwards after they are joined.
-pub joined_raised : (T : Table) (n : ℕ) (rep : List ℕ) (x y : ℕ) (u : Settled) → Unifies n T rep x y u → u.ok ≡ true → {out : List ℕ} → Raised n T u.rep out → Joined n T rep x y (Some out)
-joined_raised T n rep x y u v e r = record {
-  no = λ i. absurd (true≢false i);
-  solved = λ _. r.solved;
-  sat = λ _ m mr. (λ s. (r.sat m mr).0 ((v.sat e m mr).0 s), λ s. (v.sat e m mr).1 ((r.sat m mr).1 s));
-  most = λ _. omega (arith, r.most, v.most e);
-  fewer = λ _ ne. omega (arith, r.most, v.fewer e ne);
+pub unified_raised : (n : ℕ) (T : Table) (rep : List ℕ) (x y : ℕ) (u out : List ℕ) → Unified n T rep x y u → Raised n T u out → Unified n T rep x y out
+unified_raised n T rep x y u out v r = record {
+  solved = r.solved;
+  sat = λ m mr. (λ s. (r.sat m mr).0 ((v.sat m mr).0 s), λ s. (v.sat m mr).1 ((r.sat m mr).1 s));
+  most = omega (arith, r.most, v.most);
+  fewer = λ ne. omega (arith, r.most, v.fewer ne);
 }
 
 -- ---- the pairs of a step
@@ -60,21 +57,21 @@ module _ (T : Table) (n : ℕ) (rep want bare : List ℕ) where
           ]
         ]
 
-        pub failed_next : Joined n T rep at.c at.d None → Failed from (place at.c (at.d + 1))
+        pub failed_next : Never T (class_at rep) at.c at.d → Failed from (place at.c (at.d + 1))
         failed_next v i j hi hj l b p = elim (before i j hi hj l b p) [
           | inl never ↦ never
           | inr (k, q) ↦ (λ m mr s z. v m mr s (sym (ap m k) ∙ (z ∙ ap m q)))
         ]
 
-        pub child_found : {out : List ℕ} → Joined n T rep at.c at.d (Some out) → from ≤ place c d →
+        pub child_found : {out : List ℕ} → Unified n T rep at.c at.d out → from ≤ place c d →
             ChildOf T n rep want bare from (Some (record { rep = out; after = record { c = at.c; d = at.d + 1 } }))
         child_found v lo = record {
           none = tt;
-          solved = v.solved refl;
-          fewer = v.fewer refl w.3.apart;
+          solved = v.solved;
+          fewer = v.fewer w.3.apart;
           later = (omega (arith, w.2), w.0, omega (arith, w.1));
           passed = λ i j hi hj l b p m mr s z. elim (before i j hi hj l b p) [
             | inl never ↦ absurd (never m mr s z)
-            | inr (k, q) ↦ (v.sat refl m mr).0 (s, sym (ap m k) ∙ (z ∙ ap m q))
+            | inr (k, q) ↦ (v.sat m mr).0 (s, sym (ap m k) ∙ (z ∙ ap m q))
           ];
         }

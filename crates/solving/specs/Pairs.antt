@@ -1,13 +1,12 @@
 -- The pairs of one step, in the order in which they are tried.
--- Mirrored, Pairs: which pairs; place: their order; InRow: the next one of a row; NoPair, NextPair: the next one; Joined: the classes with two cells in one; ChildOf: the classes that the next pair gives.
-use Rattle.std.specs.Prelude.{Option, Some, None, IfSome, IfNone, ◌≡◌, true, List, ℕ, ◌+◌, ◌*◌, ◌≤◌, ◌<◌}
+-- Mirrored, Pairs: which pairs; place: their order; InRow: the next one of a row; NoPair, NextPair: the next one; ChildOf: the classes that the next pair gives.
+use Rattle.std.specs.Prelude.{Option, Some, None, IfSome, IfNone, ◌≡◌, List, ℕ, ◌+◌, ◌*◌, ◌≤◌, ◌<◌}
 use Rattle.model.specs.Message.{Message}
 use Rattle.model.specs.Case.{Table, Reads}
 use Rattle.theory.specs.Cells.{class_at, On}
 use Rattle.theory.specs.Classes.{Sat}
 use Rattle.theory.specs.Level.{Kin}
 use Rattle.classes.specs.Kept.{Never, Solved, class_count}
-use Rattle.classes.specs.Settle.{Unifies}
 use Rattle.granting.specs.declared.Place.{Place}
 use Rattle.solving.specs.declared.search.Child.{Child}
 
@@ -42,11 +41,6 @@ InRow T n rep want bare c from None = (x : ℕ) → from ≤ x → x < n → Pai
 abbrev pub NextPair : Table → ℕ → List ℕ → List ℕ → List ℕ → ℕ → Option Place → Type 0
 NextPair T n rep want bare from (Some p) = (p.c < n) × (p.d < n) × (from ≤ place p.c p.d) × Pairs T rep want bare p.c p.d × NoPair T n rep want bare from (place p.c p.d)
 NextPair T n rep want bare from None = (to : ℕ) → NoPair T n rep want bare from to
-
--- The classes with those of the cells x and y in one; none, if no messages of the cells allow it.
-abbrev pub Joined : ℕ → Table → List ℕ → ℕ → ℕ → Option (List ℕ) → Type 0
-Joined n T rep x y (Some out) = Unifies n T rep x y (record { ok = true; rep = out })
-Joined n T rep x y None = Never T (class_at rep) x y
 
 -- The first pair from the place `from` on that can be made equal, if there is one, with the classes that it gives, and the place after it.
 pub record ChildOf (T : Table) (n : ℕ) (rep want bare : List ℕ) (from : ℕ) (r : Option Child) : Type 0 where

@@ -4,7 +4,8 @@ ghost use Rattle.model.specs.Case.{WellFormed};
 ghost use Rattle.model.specs.Stored.{table_in, run_in};
 ghost use Rattle.theory.specs.Cells.{RunWords};
 ghost use Rattle.classes.specs.Kept.{Kept, Solved};
-ghost use Rattle.solving.specs.Pairs.{place, Joined, ChildOf};
+ghost use Rattle.classes.specs.Settle.{Unifies};
+ghost use Rattle.solving.specs.Pairs.{place, ChildOf};
 ghost use Rattle.solving.specs.Searches.{Searched, Solves};
 
 use super::list::value_list;
@@ -27,7 +28,7 @@ struct Child {
 fn joined(table: &Table, rep: &[u8; 129], x: u8, y: u8) -> Option<[u8; 129]>
     requires kept { Kept table.now.count (table_in table.now.words) rep.now }
     requires x_lt_n { (x < table.now.count) × (y < table.now.count) }
-    ensures { Joined table.now.count (table_in table.now.words) rep.now x y result }
+    ensures { Unifies table.now.count (table_in table.now.words) rep.now x y result }
 {
     if clash(table, rep, x, y, 3) {
         return None;

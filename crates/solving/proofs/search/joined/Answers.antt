@@ -1,8 +1,6 @@
 -- Cells that clash or cannot be unified are never equal; else the classes are joined and closed upwards.
-use borrow.Author.Tests.{not-false}
-use Rattle.model.specs.Stored.{table_in}
-use Rattle.solving.proofs.ChildLaws.{joined_raised}
+use Rattle.solving.proofs.ChildLaws.{unified_raised}
 use Rattle.solving.proofs.search.joined.Goals as goal
 
 pub returns : goal.returns
-returns c = joined_raised (table_in c.args.table.now.words) c.args.table.now.count c.args.rep.now c.args.x c.args.y _ c.unify-u.ensures (not-false _ c.if-not-u.false) c.raise.ensures
+returns c = unified_raised _ _ _ _ _ _ _ c.in_ok-out.ensures c.raise.ensures
