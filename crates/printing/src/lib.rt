@@ -10,7 +10,7 @@ ghost use Rattle.printing.specs.Lines.{value, value_line, line_of, value_lines, 
 ghost use Rattle.printing.specs.Promise.{ReplyPromise};
 
 use casefile::Case;
-use cells::{is_variable, Words};
+use cells::{Words, is_variable};
 use lines::put_text;
 use refusals::Refusal;
 
