@@ -1,6 +1,6 @@
 -- Following a list by classes of cells.
 -- Inside: entries are cells; Listed: messages that follow the list; Binds, Gathers, Follows: the functions.
-use Rattle.std.specs.Prelude.{◌≡◌, true, false, List, ◌↔◌, ℕ, ◌<◌, get_or, Option, Some, None}
+use Rattle.std.specs.Prelude.{◌≡◌, List, ◌↔◌, ℕ, ◌<◌, get_or, Option, Some, None}
 use Rattle.model.specs.Message.{Message}
 use Rattle.model.specs.Case.{VA, Table, Reads}
 use Rattle.theory.specs.Cells.{class_at}

@@ -1,10 +1,9 @@
 -- The file of a text has at most 898 bytes, so none is refused with 9.
 use mathlib.Core.Path.{◌≡◌, refl, sym, ◌∙◌, ap, subst}
 use mathlib.Core.List.{List, [], ◌∷◌, ◌++◌}
-use Prim.Native.Nat.{ℕ, ◌+◌, ◌*◌, ◌≤◌}
+use Prim.Native.Nat.{ℕ, ◌*◌, ◌≤◌}
 use native.Mathlib.Omega.{arith}
-use lib.ListN.{length, take, drop, length-append}
-use lib.Seq.{length-take-le, take-add, take-append-le, drop_at}
+use lib.ListN.{length, take, length-append}
 use Rattle.model.proofs.Read.{clash}
 use Rattle.model.specs.Case.{Cell, Event, MK, LN}
 use Rattle.model.specs.Format.{cell_bytes, event_bytes, joined, file_bytes, mark, End}

@@ -1,6 +1,6 @@
 -- The reply to the text that was read, and what is written of it.
 -- Enters: the reply to a text, with a buffer that is enough; Sends, Answers, Does: what is written.
-use Rattle.std.specs.Prelude.{◌≡◌, List, [], ◌∷◌, ℕ, ◌≤◌, ◌<◌, length, take, Result}
+use Rattle.std.specs.Prelude.{◌≡◌, List, [], ◌∷◌, ℕ, ◌≤◌, ◌<◌, length, Result}
 use Rattle.std.specs.Io.KnownBytes.{Keeps, Appends}
 use Rattle.std.specs.declared.option.Option.{Option}
 use Rattle.model.specs.Format.{file_bytes}

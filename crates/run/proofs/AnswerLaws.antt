@@ -1,10 +1,9 @@
 -- The reply to the first bytes is the reply to the whole input.
 use mathlib.Core.Path.{◌≡◌, ap, subst}
 use mathlib.Core.List.{List}
-use Prim.Native.Nat.{ℕ, ◌+◌, ◌-◌, ◌≤◌}
+use Prim.Native.Nat.{ℕ, ◌≤◌}
 use native.Mathlib.Omega.{arith}
 use lib.ListN.{length, take, drop, length-drop, length-append}
-use lib.Seq.{length-take-le}
 use Rattle.model.specs.Replies.{laid}
 use Rattle.printing.specs.Promise.{ReplyPromise}
 use Rattle.printing.proofs.Theorems.{reply_from_prefix}

@@ -4,7 +4,7 @@ use native.Mathlib.Omega.{arith}
 use borrow.Author.Rules.{rules}
 use Rattle.model.proofs.Accepted.{Bytes}
 use Rattle.knowledge.proofs.ClassRows.{kept_row}
-use Rattle.casefile.proofs.CaseFile.{case_accepted, case_words, case_events}
+use Rattle.casefile.proofs.CaseFile.{case_accepted}
 use Rattle.building.proofs.CaseLaws.{answer_marks}
 use Rattle.building.proofs.build_marks.Goals as goal
 

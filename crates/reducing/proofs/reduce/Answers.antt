@@ -1,7 +1,7 @@
 -- `reducing::reduce` keeps its promise: each reply to a file without variables cites its law.
 use native.Mathlib.Omega.{arith}
 use Rattle.model.proofs.Accepted.{Bytes}
-use Rattle.casefile.proofs.CaseFile.{case_accepted, case_words, case_events}
+use Rattle.casefile.proofs.CaseFile.{case_accepted, case_events}
 use Rattle.reducing.proofs.CaseLaws.{case_solid, answer_short, answer_reduced}
 use Rattle.reducing.proofs.reduce.Goals as goal
 

@@ -1,7 +1,7 @@
 -- The words that were read are those of the file, and what the search says of them decides the reply.
 use borrow.Author.Rules.{rules}
 use Rattle.model.proofs.Accepted.{Bytes}
-use Rattle.casefile.proofs.CaseFile.{case_accepted, case_words, case_events}
+use Rattle.casefile.proofs.CaseFile.{case_accepted, case_events}
 use Rattle.running.proofs.PromiseLaws.{case_formed, reply_no, reply_yes}
 use Rattle.running.proofs.run.Goals as goal
 

@@ -1,6 +1,4 @@
 -- The loop's invariant: the spot of the byte i, at or before the place.
-use Prim.Native.Nat.{◌-◌}
-use lib.ListN.{length}
 use Rattle.enter.proofs.SpotLaws.{Reached}
 use Rattle.enter.proofs.refusal.spot_of.Given as goal
 
