@@ -16,6 +16,7 @@ ghost use Rattle.casefile.specs.Case.{Reads, VariableFound};
 pub use case::Case;
 use cells::Table;
 use refusals::Refusal;
+use table::Cells;
 
 // One word for each of so many cells, or events, then zeros.
 #[derive(Clone, Copy)]
@@ -37,9 +38,8 @@ fn first_variable(table: &Table) -> Option<usize>
 pub fn read_case(file: &[u8]) -> Result<Case, Refusal>
     ensures { Reads (read_file file.now) result }
 {
-    let read = table::read_cells(file)?;
-    let table = read.table;
-    let run = rest::read_events(&file[read.at..], read.at, &table)?;
+    let Cells { table, at } = table::read_cells(file)?;
+    let run = rest::read_events(&file[at..], at, &table)?;
     let variable = first_variable(&table);
     Ok(Case {
         table,

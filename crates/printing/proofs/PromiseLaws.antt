@@ -47,7 +47,7 @@ place_few file n p e = let h = (refused_place file n p e).2 in omega arith
 
 module _ {file : List ℕ} {r : Case} (w : CaseFile file r) where
   pub case_events : r.run.count ≡ length w.f.events
-  case_events = ap (λ u. u.count) w.run
+  case_events = ap (λ u. u.count) w.holds.run
 
   counts_text : counts_line r.table.count r.run.count ≡ counts_line (length w.f.cells) (length w.f.events)
   counts_text = ap₂ counts_line (case_count w) case_events

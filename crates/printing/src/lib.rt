@@ -10,7 +10,7 @@ ghost use Rattle.printing.specs.Lines.{value, value_line, line_of, value_lines, 
 ghost use Rattle.printing.specs.Promise.{ReplyPromise};
 
 use casefile::Case;
-use cells::{is_variable, Words};
+use cells::{Words, is_variable};
 use lines::put_text;
 use refusals::Refusal;
 
@@ -34,12 +34,12 @@ fn put_refusal(refusal: Refusal, out: &mut [u8]) -> usize
 }
 
 // Puts the line of counts at the front.
-fn put_counts(cells: usize, events: usize, out: &mut [u8]) -> usize
-    requires { (cells < 1000) × (events < 1000) × (1437 ≤ length out.old) }
-    ensures { Put (counts_line cells events) out.old 0 out.new result × (result ≤ 21) }
+fn put_counts(case: &Case, out: &mut [u8]) -> usize
+    requires { (case.now.table.count < 1000) × (case.now.run.count < 1000) × (1437 ≤ length out.old) }
+    ensures { Put (counts_line case.now.table.count case.now.run.count) out.old 0 out.new result × (result ≤ 21) }
 {
-    let first = put_told(b"cells ", cells, 0, out);
-    let second = put_told(b" events ", events, first, out);
+    let first = put_told(b"cells ", case.table.count, 0, out);
+    let second = put_told(b" events ", case.run.count, first, out);
     put_text(b"\n", second, out)
 }
 
@@ -89,11 +89,11 @@ fn put_values(words: &Words, list: &[u8; 128], n: usize, at: usize, out: &mut [u
 }
 
 // Puts the counts and "no".
-fn put_no(cells: usize, events: usize, out: &mut [u8]) -> usize
-    requires { (cells < 1000) × (events < 1000) × (1437 ≤ length out.old) }
-    ensures { Put (counts_line cells events ++ no_line) out.old 0 out.new result }
+fn put_no(case: &Case, out: &mut [u8]) -> usize
+    requires { (case.now.table.count < 1000) × (case.now.run.count < 1000) × (1437 ≤ length out.old) }
+    ensures { Put (counts_line case.now.table.count case.now.run.count ++ no_line) out.old 0 out.new result }
 {
-    let counted = put_counts(cells, events, out);
+    let counted = put_counts(case, out);
     put_text(b"run no\n", counted, out)
 }
 
@@ -102,7 +102,7 @@ fn put_yes(case: &Case, list: &[u8; 128], out: &mut [u8]) -> usize
     requires { (case.now.table.count ≤ 128) × (case.now.run.count < 1000) × (1437 ≤ length out.old) }
     ensures { Put (counts_line case.now.table.count case.now.run.count ++ (yes_line ++ value_lines (table_in case.now.table.words) list.now case.now.table.count)) out.old 0 out.new result }
 {
-    let counted = put_counts(case.table.count, case.run.count, out);
+    let counted = put_counts(case, out);
     let told = put_text(b"run yes\n", counted, out);
     put_values(&case.table.words, list, case.table.count, told, out)
 }
@@ -122,7 +122,7 @@ pub fn write_reply(file: &[u8], out: &mut [u8]) -> usize
     };
     match running::run(file, &mut list) {
         Ok(Some(_)) => put_yes(&case, &list, out),
-        Ok(None) => put_no(case.table.count, case.run.count, out),
+        Ok(None) => put_no(&case, out),
         Err(refusal) => put_refusal(refusal, out),
     }
 }

@@ -25,7 +25,7 @@ use Rattle.refusals.proofs.Numbers.{fault_numbered, number_one as fault_one, num
 use Rattle.typing.specs.Reply.{Refused, Written}
 use Rattle.std.specs.Result.{MatchResult, IsErrAnd}
 use Rattle.std.proofs.lemmas.Result.{err_from_is_err_and}
-use Rattle.prismfleece.specs.Numbers.{told_place, told_refusal, text_number, reply_number, bytes_number, Room}
+use Rattle.prismfleece.specs.Numbers.{told_place, told_refusal, text_number, bytes_number, Room}
 use Rattle.prismfleece.proofs.Told.{Told, refusal, small, number, Fits, number_one, same_refusal}
 
 abbrev pub told : Result ℕ Refusal → Told
@@ -134,20 +134,16 @@ told_alike (Err x) (Ok m) e = clash (cc)
 told_alike (Ok n) (Err y) e = clash (cc)
 told_alike (Ok n) (Ok m) e = inl (cc)
 
--- ---- the reply with a refusal's place as it is told
+-- ---- the reply as it is told
 
+-- The reply r' is r, with a refusal's place as it is told.
 abbrev pub Cut : Result ℕ Refusal → Result ℕ Refusal → Type 0
 Cut r r' = MatchResult r (λ n. r' ≡ Ok n) (λ e. IsErrAnd r' (λ d. d ≡ told_refusal e))
 
--- A number has room for it,
+-- A number has room for it.
 pub cut_room : (r r' : Result ℕ Refusal) → Cut r r' → Fits (told r) → Room bytes_number r'
 cut_room (Ok n) r' e h = rw e (omega arith)
 cut_room (Err x) r' k h = let (y, i, j) = err_from_is_err_and r' k in rw (i, j) (omega arith)
-
--- which is that of the reply.
-pub cut_number : (r r' : Result ℕ Refusal) → Cut r r' → reply_number bytes_number r' ≡ text_number r
-cut_number (Ok n) r' e = rw e refl
-cut_number (Err x) r' k = let (y, i, j) = err_from_is_err_and r' k in rw (i, j) refl
 
 -- ---- what a number tells
 

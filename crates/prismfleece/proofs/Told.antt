@@ -43,6 +43,10 @@ number_one (small k) (small l) s t e = ap small e
 pub same_refusal : {A : Type 0} (x y : Refusal) → x.fault ≡ y.fault → x.place ≡ y.place → Path (Result A Refusal) (Err x) (Err y)
 same_refusal x y f p = ap (λ a. Err (record { fault = a; place = x.place })) f ∙ ap (λ b. Err (record { fault = y.fault; place = b })) p
 
+-- The cells of an accepted file are few.
+pub few : (file : List ℕ) (f : File) → read_file file ≡ Reading.accepted f → length f.cells ≤ 128
+few file f e = (accepted_file file f e).few_cells
+
 -- ---- the replies of a question whose answers have numbers
 
 module _ {A : Type 0} (answer : A → ℕ) where
@@ -84,14 +88,10 @@ module _ {A : Type 0} (answer : A → ℕ) where
 
     module _ (f : File) (e : read_file file ≡ Reading.accepted f) where
       pub cells_fit : (n : ℕ) → Fits (told (Refused n (length f.cells)))
-      cells_fit n = let k = (accepted_file file f e).few_cells in (number_up (fault_of n), omega arith)
+      cells_fit n = let k = few file f e in (number_up (fault_of n), omega arith)
 
       pub variable_fits : (at : ℕ) → first_variable f.cells ≡ some at → Fits (told (Refused 8 at))
-      variable_fits at i = let (c, j, h, g) = variable_first f.cells at i in let k = (accepted_file file f e).few_cells in (number_up (fault_of 8), omega arith)
-
--- The cells of an accepted file are few.
-pub few : (file : List ℕ) (f : File) → read_file file ≡ Reading.accepted f → length f.cells ≤ 128
-few file f e = (accepted_file file f e).few_cells
+      variable_fits at i = let (c, j, h, g) = variable_first f.cells at i in let k = few file f e in (number_up (fault_of 8), omega arith)
 
 -- ---- the answers have different numbers
 

@@ -16,13 +16,13 @@ ghost use Rattle.reducing.specs.Given.{Given, Solid};
 ghost use Rattle.reducing.specs.Plan.{planned, Sized, Plans, PlansRun};
 ghost use Rattle.reducing.specs.Promise.{ReducePromise};
 
-use cells::{Run, Table};
+use cells::{Run, Table, Words};
 use refusals::{Fault, Refusal};
 
 // The reduced file before it is written: its table, marks on the cells that it learns, and how many cells and events it has.
 #[derive(Clone, Copy, Debug, PartialEq, Eq)]
 struct Plan {
-    pub table: Table,
+    pub table: Words,
     pub learnt: [u8; 128],
     pub cells: usize,
     pub events: usize,

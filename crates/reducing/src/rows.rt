@@ -6,7 +6,7 @@ ghost use Rattle.reducing.specs.Plan.{empty_plan, put_row, Laid};
 
 use super::Plan;
 use super::order::{Numbers, renumbered};
-use cells::{cell_at, word_of, Words};
+use cells::{Words, cell_at, word_of};
 
 // The plan without cells.
 fn empty_plan() -> Plan

@@ -4,7 +4,7 @@ use Rattle.casefile.proofs.CaseLaws.{reply_listed, reply_accepted}
 use Rattle.casefile.proofs.read_case.Goals as goal
 
 pub invariant_of-result : goal.invariant_of-result
-invariant_of-result c = record { listed = reply_listed c.args.file.now c.in_ok-read.read.at c.in_ok-read.read.table c.in_ok-read.ensures _ c.in_ok-run.ensures }
+invariant_of-result c = record { listed = reply_listed c.args.file.now _ _ c.in_ok-table.ensures _ c.in_ok-run.ensures }
 
 pub returns : goal.returns
-returns c = reply_accepted c.args.file.now c.in_ok-read.read.at c.in_ok-read.read.table c.in_ok-read.ensures _ c.in_ok-run.ensures _ refl refl c.first_variable-variable.ensures
+returns c = reply_accepted c.args.file.now _ _ c.in_ok-table.ensures _ c.in_ok-run.ensures _ refl refl c.first_variable-variable.ensures

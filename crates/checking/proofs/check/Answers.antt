@@ -1,5 +1,6 @@
 -- Each reply by its law: the first entry of bad form, and whether the list is right.
 use native.Mathlib.Omega.{arith}
+use borrow.Author.Rules.{rules}
 use Rattle.casefile.proofs.CaseFile.{CaseFile, case_accepted}
 use Rattle.checking.proofs.CaseLaws.{judged_form, judged_words, judged_right}
 use Rattle.checking.proofs.check.Goals as goal
@@ -19,5 +20,5 @@ is_right-requires c =
 
 pub returns : goal.returns
 returns c =
-    judged_right (accepted (goal.at.returns c).In_ok-case) (λ i. omega (arith, c.type_inv.file i)) c.args.list.now (omega arith) c.in_default.ensures
-    c.is_right.result c.is_right.ensures
+    let right = judged_right (accepted (goal.at.returns c).In_ok-case) (λ i. omega (arith, c.type_inv.file i)) c.args.list.now (omega arith) c.in_default.ensures c.is_right.result c.is_right.ensures in
+    search (rules, right)
