@@ -4,7 +4,7 @@ ghost use Rattle.theory.specs.Cells.{TableWords};
 use super::Words;
 
 // At most 128 cells whose parts are lower cells; all words behind them are zero, so that cells beyond the table's show his own name.
-#[derive(Clone, Copy)]
+#[derive(Clone, Copy, Debug, PartialEq, Eq)]
 pub struct Table {
     pub words: Words,
     pub count: usize,

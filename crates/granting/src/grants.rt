@@ -16,7 +16,7 @@ use wants::{bares, free_at};
 
 // What is granted: marks of what may be seen and built, the cells that are bare by them, and the costs of the ways down as far as they are known.
 // Calm: no free class is seen, so the marks hold until more is learnt.
-#[derive(Clone, Copy)]
+#[derive(Clone, Copy, Debug, PartialEq, Eq)]
 pub struct Grant {
     pub calm: bool,
     pub seen: [u8; 129],

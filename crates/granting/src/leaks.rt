@@ -24,7 +24,7 @@ fn bright(held: &[u8; 129], seen: &[u8; 129], x: usize, y: usize) -> bool
 }
 
 // The cells c and d, and the classes of the parts of c.
-#[derive(Clone, Copy)]
+#[derive(Clone, Copy, Debug, PartialEq, Eq)]
 struct Against {
     pub c: usize,
     pub ends: Ends,

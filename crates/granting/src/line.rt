@@ -116,7 +116,7 @@ fn way(
 }
 
 // A way down, and how many pairs it leaves to try.
-#[derive(Clone, Copy)]
+#[derive(Clone, Copy, Debug, PartialEq, Eq)]
 pub struct Lined {
     pub pairs: u8,
     pub cells: [u8; 129],

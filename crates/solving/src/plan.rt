@@ -20,7 +20,7 @@ use wants::bares;
 use wants::sets::wanted;
 
 // Wanted and bare cells, of which pairs are to be tried. How many pairs are live is a guide only.
-#[derive(Clone, Copy)]
+#[derive(Clone, Copy, Debug, PartialEq, Eq)]
 pub struct Trial {
     pub pairs: u8,
     pub want: [u8; 129],
@@ -28,7 +28,7 @@ pub struct Trial {
 }
 
 // The plan of a step: what is tried. The position and the load are guides only.
-#[derive(Clone, Copy)]
+#[derive(Clone, Copy, Debug, PartialEq, Eq)]
 pub struct Choice {
     pub at: usize,
     pub load: usize,
@@ -37,7 +37,7 @@ pub struct Choice {
 
 // What is known before a position: the marks of what is seen and built, what is granted, and the best plan so far; none, if nothing is to be tried.
 // Fresh: nothing was learnt since the marks were found; else only those of what is seen are to be started from. Dead: a guide, how many dead ends the position had.
-#[derive(Clone, Copy)]
+#[derive(Clone, Copy, Debug, PartialEq, Eq)]
 struct Stage {
     pub fresh: bool,
     pub dead: u16,

@@ -18,7 +18,7 @@ use classes::{start, unify};
 use granting::Place;
 
 // The classes that a pair gives, and the place after it, where the next pairs begin.
-#[derive(Clone, Copy)]
+#[derive(Clone, Copy, Debug, PartialEq, Eq)]
 struct Child {
     pub rep: [u8; 129],
     pub after: Place,
