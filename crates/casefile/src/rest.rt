@@ -56,12 +56,9 @@ fn mark_within(table: &Table, marks: &mut [u8; 128], c: u8)
     requires { c < 128 }
     ensures { WithinMarked (table_in table.now.words) marks.old c marks.new }
 {
-    let mut i = usize::from(c);
-    marks[i] = 1;
-    i += 1;
-    // Downwards by hand: counting up with `let i = c - k` is no plainer.
-    while 0 < i {
-        i -= 1;
+    let top = usize::from(c);
+    marks[top] = 1;
+    for i in (0..top + 1).rev() {
         if marks[i] == 1 {
             mark_parts(cells::cell_at(&table.words, i), marks);
         }
@@ -79,12 +76,7 @@ fn loose_at(table: &Table, v: usize, held: u8, made: u8) -> bool
 fn is_loose(table: &Table, held: &[u8; 128], made: &[u8; 128]) -> bool
     ensures { Decides result (LooseMarks (table_in table.now.words) held.now made.now) }
 {
-    for v in 0..128 {
-        if loose_at(table, v, held[v], made[v]) {
-            return true;
-        }
-    }
-    false
+    (0..128).any(|v| loose_at(table, v, held[v], made[v]))
 }
 
 // Does an event show a variable that is not marked as made?

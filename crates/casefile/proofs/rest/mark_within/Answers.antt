@@ -13,7 +13,7 @@ pub loop-i-preserved-then-marks-i-eq1 : goal.loop-i-preserved-then-marks-i-eq1
 loop-i-preserved-then-marks-i-eq1 c =
     let T = table_in c.args.table.now.words in
     let p : c.loop-i.i ≡ suc (c.loop-i.i - 1) = omega arith in
-    let s = subst (λ i. Descent T c.args.c (set c.args.marks.now c.from-i.result 1) i c.loop-i.marks) p c.loop-i.invariant in
+    let s = subst (λ i. Descent T c.args.c (set c.args.marks.now c.from-top.result 1) i c.loop-i.marks) p c.loop-i.invariant in
     descent_marked T c.args.table.now.formed.lower c.args.c _ (c.loop-i.i - 1) c.loop-i.marks s c.mark_parts.new.marks c.if-marks-i-eq1.true
     (subst (λ k. PartsMarked k c.loop-i.marks c.mark_parts.new.marks) c.cell_at.ensures c.mark_parts.ensures)
 
@@ -22,4 +22,4 @@ returns c =
     let T = table_in c.args.table.now.words in
     let p : c.loop-i.i ≡ 0 = omega arith in
     within_marked T c.args.table.now.formed.lower c.args.c c.args.marks.now (search rules) c.requires c.loop-i.marks
-    (subst₂ (λ x i. Descent T c.args.c (set c.args.marks.now x 1) i c.loop-i.marks) c.from-i.ensures p c.loop-i.invariant)
+    (subst₂ (λ x i. Descent T c.args.c (set c.args.marks.now x 1) i c.loop-i.marks) c.from-top.ensures p c.loop-i.invariant)

@@ -5,6 +5,3 @@ use Rattle.casefile.proofs.rest.mark_within.Given as goal
 
 abbrev pub invariant-loop-i : goal.invariant-loop-i
 invariant-loop-i l = Descent (table_in l.table.words) l.c l.initial.marks l.i l.marks
-
-abbrev pub decreases-loop-i : goal.decreases-loop-i
-decreases-loop-i l = l.i
