@@ -1,4 +1,4 @@
-/* Answers files E, G and J of the paper: "yes" with its values, "no", and a refusal. Built and run by examples/run.sh. */
+/* Answers the files E, G and J of docs/FORMAT.md: "yes" with its values, "no", and a refusal. Built and run by examples/run.sh. */
 #include "prismfleece.h"
 #include <stdio.h>
 

@@ -1,4 +1,4 @@
--- The case file of what was typed (document 02, Req 01: cells come out in order of first completion, none twice).
+-- The case file of what was typed: cells come out in order of first completion, none twice.
 -- completed: what a message completes, in order; trees_of: the first completions of all entries; file_of: the file; TooMany, is_loose: 4 and 6.
 use Rattle.std.specs.Prelude.{Bool, true, false, cond, List, [], ◌∷◌, ◌++◌, map, ◌⊎◌, ℕ, zero, suc, ◌<◌, eqb, length}
 use Rattle.model.specs.Message.{One, App, Two, Pair, Seal}

@@ -1,4 +1,4 @@
--- The grammar of typed lines (document 02, Req 01; docs/GRAMMAR.md): what is written, its bytes with their nesting, what it says, and the first byte at fault.
+-- The grammar of typed lines (docs/GRAMMAR.md): what is written, its bytes with their nesting, what it says, and the first byte at fault.
 -- decimal: numbers; Message, Messages, Line: the productions; message_text, list_text, line_text: their bytes, each with its nesting; message_says, list_says, line_says: their one reading;
 -- Stands, Begun: what lines begin with; Fault: 11 and 12.
 use Rattle.std.specs.Prelude.{◌≡◌, cond, List, [], ◌∷◌, ◌++◌, map, ℕ, zero, suc, ◌+◌, ◌/◌, ◌%◌, ◌≤◌, ◌<◌, ltb, length}

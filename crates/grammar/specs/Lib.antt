@@ -1,4 +1,4 @@
--- Messages as reviewers type them (document 02, Req 01), in its words: Typed, Grammar, Filed and Text. A reader must believe these files; all else is proved.
+-- Messages as reviewers type them (docs/GRAMMAR.md): Typed, Grammar, Filed and Text. A reader must believe these files; all else is proved.
 -- Reader is a tool of the proofs: what the contracts between the readers cite.
 pub mod Typed
 pub mod Grammar

@@ -1,4 +1,4 @@
--- What is replied to a text (document 02, Req 01: refusals line by line from the front).
+-- What is replied to a text: refusals line by line from the front.
 -- Outcome, Told: what a text is refused with, or the entries it says; TextReply: the promise, on bytes in and out.
 use Rattle.std.specs.Prelude.{◌≡◌, true, false, List, [], ◌∷◌, ◌++◌, ℕ, ◌+◌, ◌≤◌, ◌<◌, length}
 use Rattle.model.specs.Format.{file_bytes}

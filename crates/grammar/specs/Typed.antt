@@ -1,4 +1,4 @@
--- What typed text says: trees with variables, learnt or made (document 02, Req 01).
+-- What typed text says: trees with variables, learnt or made.
 -- Typed: a message as typed, its variables by their numbers; paired, sealed, applied: short names; shows: its message under values; PartOf, Holds: what stands in it; Entry: what a line says.
 use Rattle.std.specs.Prelude.{ℕ}
 use Rattle.model.specs.Message.{One, App, Two, Pair, Seal, Message}

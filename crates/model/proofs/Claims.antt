@@ -1,4 +1,4 @@
--- The starred files of document 01 by their bytes, and what is said of each, as one list. The statement is `All Holds starred`.
+-- The starred files by their bytes, and what is said of each, as one list. The statement is `All Holds starred`.
 -- Reply, Claim: what is said of a file; Holds: what that means by the definitions; bytes_of: the files; starred: the list.
 use mathlib.Core.Path.{◌≡◌}
 use mathlib.Core.List.{List, [], ◌∷◌, ◌++◌}

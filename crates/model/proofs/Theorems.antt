@@ -74,6 +74,6 @@ pub same_of_the_format : (s s' : List ℕ) (f g : File) → Bytes s → Bytes s'
     ((x : Message) → Bounded x → Built (HeardOf f) x ↔ Built (HeardOf g) x) → (x : Message) → Built (HeardOf f) x ↔ Built (HeardOf g) x
 same_of_the_format = same_bounded
 
--- What document 01 says of each starred file holds of the definitions.
+-- What is claimed of each starred file holds of the definitions.
 pub starred_files : All Holds starred
 starred_files = starred_hold

@@ -1,4 +1,4 @@
--- Cells, events and files; what a cell shows under values; well-formedness; right values (document 01, "Case file" and "Run").
+-- Cells, events and files; what a cell shows under values; well-formedness; right values (docs/FORMAT.md).
 -- Cell, Event, File; Table, Run: a file's cells and events by number; Reads, message: what a cell shows; Part, Within: what a cell holds;
 -- WellFormed: what an LN may hold; Right: when messages are right.
 use Rattle.std.specs.Prelude.{◌≡◌, List, ℕ, zero, suc, ◌<◌, get_or}

@@ -1,4 +1,4 @@
--- Case files as bytes: their records, and what is refused (document 01, "Case file" and "Refusal numbers and their order").
+-- Case files as bytes: their records, and what is refused (docs/FORMAT.md).
 -- Kind, mark, width: the records; check: the tests within a record; read_file: what a file is read as; file_bytes: a file's bytes.
 use Rattle.std.specs.Prelude.{Bool, true, false, cond, not, List, [], ◌∷◌, ◌++◌, ℕ, zero, suc, ◌+◌, ◌*◌, ◌/◌, ◌%◌, length, get_or, drop, eqb, ltb, leb}
 use Rattle.std.proofs.Math.Option.{Option, some, none}
@@ -9,7 +9,7 @@ use Rattle.model.specs.Case.{Cell, AT, VA, ONE, TWO, PR, SE, AP, Event, MK, LN, 
 pub data Kind : Type 0 where
   Atom Variable Pair Seal Apply Make Learn End : Kind
 
--- The kinds, in the order of the paper's table.
+-- The kinds, in the order of the table in docs/FORMAT.md.
 abbrev pub kinds : List Kind
 kinds = Atom ∷ Variable ∷ Pair ∷ Seal ∷ Apply ∷ Make ∷ Learn ∷ End ∷ []
 
@@ -156,7 +156,7 @@ pub data Checked : Type 0 where
   fault : ℕ → Checked
   sound : Kind → Checked
 
--- The tests once the mark is there, in the paper's order.
+-- The tests once the mark is there, in the order of docs/FORMAT.md.
 unfoldable pub check_kind : List ℕ → File → Option Kind → Checked
 check_kind rest f none = fault 2
 check_kind rest f (some k) =

@@ -1,4 +1,4 @@
--- What the promises mean, in the words of document 01. A reader must believe these files; all else is proved.
+-- What the promises mean; docs/FORMAT.md says it in words. A reader must believe these files; all else is proved.
 pub mod Message
 pub mod Case
 pub mod Values

@@ -1,4 +1,4 @@
--- Messages, and what the intruder can build (document 01, "Messages" and "What the intruder can build").
+-- Messages, and what the intruder can build.
 -- One, Two: the kinds by their number of parts; Message; pair, seal, app: short names; Bounded: names and functions of the format; Made, Opens: the steps; Built: what he
 -- can build.
 use Rattle.std.specs.Prelude.{ℕ, ◌<◌}

@@ -1,4 +1,4 @@
--- Bare messages, the order of cells, and the reduced file (document 01, "Reducing").
+-- Bare messages, the order of cells, and the reduced file.
 -- Bare, Rest: what the file lists; height, kind, key: the order; Lists: cells in order; Reduces: the reduced file.
 use Rattle.std.specs.Prelude.{◌≡◌, ◌↔◌, ℕ, ◌<◌, ◌+◌, ◌*◌, ◌^◌, max}
 use mathlib.Core.List.{List, [], ◌∷◌, Memᴰ}

@@ -1,4 +1,4 @@
--- What each reply says of an accepted file (document 01, "The five questions"), and how a reply lies in a buffer.
+-- What each reply says of an accepted file, and how a reply lies in a buffer.
 -- FormOf, RightOf, RightListed, NoneRight: run and list check; EquatedBy, NeverEqual: equating; MarkList: build marks; ReducedTo: reducing; laid, Untouched, FileRefused, SameButList: replies and buffers.
 use Rattle.std.specs.Prelude.{◌≡◌, List, ◌++◌, map, ℕ, ◌<◌, length, get_or, drop}
 use Rattle.std.proofs.Math.Option.{none}

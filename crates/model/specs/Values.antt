@@ -1,4 +1,4 @@
--- Values, value lists and equating lists (document 01, "Equating", "Run" and "List check").
+-- Values, value lists and equating lists.
 -- RightValues; cell_of, Form, RightList: value lists; Ends, Equates, EquatingList: equating lists.
 use Rattle.std.specs.Prelude.{◌≡◌, ◌↔◌, cond, List, ℕ, ◌<◌, eqb, length, get_or}
 use Rattle.model.specs.Message.{Message}

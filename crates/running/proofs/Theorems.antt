@@ -1,4 +1,4 @@
--- The main theorems of the run: demand 2 on bytes.
+-- The main theorems of the run, on bytes: a list that is shown is right, and "no" means that there is none.
 use mathlib.Core.Path.{◌≡◌}
 use mathlib.Core.List.{List}
 use mathlib.Core.Logic.{◌↔◌, inl, inr}

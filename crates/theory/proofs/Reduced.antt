@@ -1,4 +1,4 @@
--- Demand 3 on files: reduced files are equal exactly if the same can be built, and reducing again gives the file back.
+-- Reduced files are equal exactly if the same can be built, and reducing again gives the file back.
 use mathlib.Core.Path.{◌≡◌, refl, sym, ◌∙◌, ap, ap₂, subst}
 use mathlib.Core.Logic.{◌↔◌, ◌⊎◌, inl, inr}
 use mathlib.Core.List.{List, [], ◌∷◌, map, Memᴰ}

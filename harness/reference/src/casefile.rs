@@ -105,7 +105,7 @@ impl CaseFile {
     }
 }
 
-/// The bytes of a file as document 01 writes it: words of capital letters stand for themselves, all others are hexadecimal.
+/// The bytes of a file as docs/FORMAT.md writes it: words of capital letters stand for themselves, all others are hexadecimal.
 pub fn written(text: &str) -> Vec<u8> {
     let bytes_of = |word: &str| {
         if word.bytes().all(|b| b.is_ascii_uppercase()) {

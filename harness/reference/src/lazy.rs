@@ -1,4 +1,4 @@
-//! The lazy intruder of source 001: constraints "from(wanted, known)" rewritten by the rules of its Figure 3.
+//! The published lazy intruder: constraints "from(wanted, known)" rewritten by the rules of its Figure 3.
 //!
 //! The first constraint that wants more than variables is taken, and its first wanted message that is no variable; the
 //! branches are equating it with a known message (G unif), splitting it into its parts (G pair, G scrypt, and the like

@@ -118,7 +118,7 @@ fn held() -> Vec<String> {
     events.map(|events| format!("{cells} {events} EN")).into_iter().chain(others.map(String::from)).collect()
 }
 
-/// Every two faults that can stand in one record, in every kind of record; the order of document 01 decides between them.
+/// Every two faults that can stand in one record, in every kind of record; the order of docs/FORMAT.md decides between them.
 fn coinciding() -> Vec<String> {
     let few = "AT 0001 VA ".to_string();
     let full = at(1) + &variables(127);

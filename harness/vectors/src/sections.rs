@@ -61,7 +61,7 @@ fn list(chance: &mut Chance) -> Result<Vec<Case>, String> {
     Ok(runs::lists(chance)?.into_iter().map(|(list, file)| Case { asked: Asked::List(list), file }).collect())
 }
 
-/// The files of document 01, Q's bounds, and files with many variables.
+/// The worked files of docs/FORMAT.md, Q's bounds, and files with many variables.
 fn printed() -> Vec<Case> {
     let texts = named().into_iter().map(|(_, text)| text).chain(bounds()).chain(many_variables());
     texts.map(|text| Case { asked: Asked::Printed, file: written(&text) }).collect()

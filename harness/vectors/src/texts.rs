@@ -1,4 +1,4 @@
-//! Records and files as document 01 writes them, for `written` to turn into bytes.
+//! Records and files as docs/FORMAT.md writes them, for `written` to turn into bytes.
 
 use reference::casefile::MOST;
 
@@ -55,7 +55,7 @@ pub fn tower(height: usize, base: usize, make: impl Fn(usize, usize) -> String) 
 
 const CELLS_OF_E: &str = "AT 0001 AT 0002 SE 01 00 VA SE 03 00 ";
 
-/// The files of document 01 by their letters.
+/// The worked files by their letters.
 pub fn named() -> Vec<(&'static str, String)> {
     let with_cells_of_e = |rest: &str| CELLS_OF_E.to_string() + rest;
     vec![
@@ -82,9 +82,9 @@ pub fn named() -> Vec<(&'static str, String)> {
     ]
 }
 
-/// One of the files of document 01.
+/// One of the worked files.
 pub fn of(letter: &str) -> String {
-    named().into_iter().find(|(name, _)| *name == letter).expect("a file of document 01").1
+    named().into_iter().find(|(name, _)| *name == letter).expect("a worked file").1
 }
 
 /// Q's files as large as they may be, and one cell or event larger.
