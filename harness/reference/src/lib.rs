@@ -1,5 +1,5 @@
 //! The five questions, written from their scope and the published sources alone, and the reading of typed text, written
-//! from request 01.
+//! from docs/GRAMMAR.md.
 //!
 //! A message is the number of a shared tree ([`terms`]); what the intruder can build is found by saturating over
 //! messages ([`building`]); equality by a textbook unifier ([`unifying`]); a run by the published lazy intruder

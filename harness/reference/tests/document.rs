@@ -1,4 +1,4 @@
-//! The files on both sides of each line, from document 01.
+//! The files on both sides of each line, from docs/FORMAT.md.
 
 use reference::casefile::{read, written as file};
 use reference::lazy::{Limit, PUBLISHED};

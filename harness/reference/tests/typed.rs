@@ -231,7 +231,7 @@ fn order() {
     refused(&("make a1\nlearn X1,".to_string() + &atoms(0, 200) + "\nmake a01\n"), 4, 8);
 }
 
-/// 6 as in document 01, at the line's first byte.
+/// 6 as in docs/FORMAT.md, at the line's first byte.
 #[test]
 fn learnt_variables() {
     refused("make a1\nlearn X1\n", 6, 8);
