@@ -29,16 +29,6 @@ fn outside(c: Cell, n: usize) -> bool
     }
 }
 
-// The bytes of a cell's record.
-fn size_of(c: Cell) -> usize
-    ensures { result ≡ length (cell_bytes (as_cell c)) }
-{
-    match c {
-        Cell::Variable => 2,
-        Cell::Atom(_) | Cell::Pair(_, _) | Cell::Seal(_, _) | Cell::Apply(_, _) => 4,
-    }
-}
-
 // The step at a whole record of a cell, after n cells.
 fn next_cell(c: Cell, n: usize) -> Result<Cell, Fault>
     ensures { result ≡ cell_step c n }
@@ -81,7 +71,7 @@ pub fn read_cells(file: &[u8]) -> Result<Cells, Refusal>
             }
             Ok(Some(c)) => {
                 row.push(cells::word_of(c));
-                at += size_of(c);
+                at += records::size_of(c);
             }
         }
     }
