@@ -18,7 +18,7 @@ use cells::Table;
 use refusals::Refusal;
 use table::Cells;
 
-// One word for each of so many cells, or events, then zeros.
+// One word for each of so many cells, or events, then zeros: a row of fixed size, as a table and a run are handed on.
 #[derive(Clone, Copy)]
 pub struct Row {
     pub words: [u32; 128],

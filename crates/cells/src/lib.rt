@@ -182,7 +182,7 @@ pub fn meet(c: Cell, d: Cell) -> Meeting
     }
 }
 
-// Are two cells of one kind that has parts and does not give them by itself?
+// Are two cells of one kind that has parts and does not give them by itself? Each way of opening and of meeting is named, so that a new one has to say what it is.
 fn kin(c: Cell, d: Cell) -> bool
     ensures { Decides result (Kin (as_cell c) (as_cell d)) }
 {

@@ -1,4 +1,5 @@
 // The question list check: is a value list, from anyone, right for a case file?
+// What a row keeps over a table or another row is a clause of each function and no type: it is a fact of two values, of which one is made anew or changed (docs/DECISIONS.md).
 
 #![tactic(auto)]
 

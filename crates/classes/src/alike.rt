@@ -9,7 +9,8 @@ ghost use Rattle.classes.specs.Differ.{Told, PartTold};
 use super::Row;
 use cells::{Meeting, Words, cell_at};
 
-// How two cells differ: not at all, in kind, name or function, or in two parts that are to be joined.
+// How two cells differ: not at all, in kind, name or function, or in two parts that are to be joined. Three answers, of which callers take two and two
+// together in turn: neither an Option nor a Result has their shape.
 #[derive(Clone, Copy, Debug, PartialEq, Eq)]
 pub enum Diff {
     Same,

@@ -48,6 +48,7 @@ fn bind_all(table: &Table, rep: &mut Row) -> Result<bool, Clash>
 {
     let n = table.count;
     let mut changed = false;
+    // c stays at a cell until it asks for nothing, which no range does.
     let mut c = n + 1;
     while c > 0 {
         if bind(table, rep, c - 1)? {

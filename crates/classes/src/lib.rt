@@ -1,4 +1,5 @@
 // Classes of cells that are to show equal messages: each cell's representative in an array of 129 bytes.
+// What a row keeps over a table or another row is a clause of each function and no type: it is a fact of two values, of which one is made anew or changed (docs/DECISIONS.md).
 
 #![tactic(auto)]
 

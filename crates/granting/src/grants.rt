@@ -15,7 +15,7 @@ use wants::sets::needed;
 use wants::{bares, free_at};
 
 // What is granted: marks of what may be seen and built, the cells that are bare by them, and the costs of the ways down as far as they are known.
-// Calm: no free class is seen, so the marks hold until more is learnt.
+// Calm: no free class is seen, so the marks hold until more is learnt. A state: the rows are used whether calm or not.
 #[derive(Clone, Copy, Debug, PartialEq, Eq)]
 pub struct Grant {
     pub calm: bool,

@@ -1,4 +1,5 @@
 // What he sees and can build, by classes of cells: two sweeps over the cells, repeated until nothing changes.
+// What a row keeps over a table or another row is a clause of each function and no type: it is a fact of two values, of which one is made anew or changed (docs/DECISIONS.md).
 
 #![tactic(auto)]
 

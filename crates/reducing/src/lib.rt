@@ -1,4 +1,5 @@
 // The question reducing: the reduced file of a file without variables. First its plan, then its bytes.
+// What a row keeps over a table or another row is a clause of each function and no type: it is a fact of two values, of which one is made anew or changed (docs/DECISIONS.md).
 
 #![tactic(auto)]
 
@@ -19,7 +20,7 @@ ghost use Rattle.reducing.specs.Promise.{ReducePromise};
 use cells::{Run, Table, Words};
 use refusals::{Fault, Refusal};
 
-// The reduced file before it is written: its table, marks on the cells that it learns, and how many cells and events it has.
+// The reduced file before it is written: its table, marks on the cells that it learns, and how many cells and events it has. Rows of fixed size: nothing is allocated.
 #[derive(Clone, Copy, Debug, PartialEq, Eq)]
 struct Plan {
     pub table: Words,

@@ -11,7 +11,7 @@ use super::store::Store;
 use cells::{Event, Run, Words, event_word, is_variable};
 use refusals::{Fault, Refusal};
 
-// What the lines so far say: their cells and their events.
+// What the lines so far say: their cells and their events, in a row of fixed size with its count.
 #[derive(Clone, Copy)]
 pub struct Lines {
     pub store: Store,

@@ -35,6 +35,7 @@ pub fn read_number(text: &[u8], at: usize, bound: u32) -> Result<(u32, usize), R
         return Err(wrong(at));
     };
     let mut n = u32::from(lead);
+    // i ends behind the number, and that is a part of the reply: digits and not a range say where.
     let mut i = at + 1;
     while let Some(c) = digit_at(text, i) {
         let more = n * 10 + u32::from(c);

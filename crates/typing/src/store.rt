@@ -5,6 +5,7 @@ ghost use Rattle.typing.specs.Store.{FoundAt, put, added, Enters, no_items, with
 use cells::{Cell, Words, word_of};
 
 // The cells so far, each as the word of its cell, a variable's with its number added: equal messages have equal words. `full` says that there are more than 128; then the words say nothing.
+// A state and no reply: a line with too many is refused only once it is read, as a byte at fault comes first. Nothing is allocated, so a row of fixed size has its count beside it.
 #[derive(Clone, Copy)]
 pub struct Store {
     pub words: Words,
@@ -12,7 +13,7 @@ pub struct Store {
     pub full: bool,
 }
 
-// The cells of a list's messages up to the last comma. `more` says that there are more than 128.
+// The cells of a list's messages up to the last comma. `more` says that there are more than 128, as `full` does, and is as much a state.
 #[derive(Clone, Copy)]
 pub struct Items {
     pub cells: [u8; 128],
