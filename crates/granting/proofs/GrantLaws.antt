@@ -2,14 +2,11 @@
 use mathlib.Core.Path.{◌≡◌, refl, sym, ◌∙◌, subst}
 use mathlib.Core.Logic.{◌⊎◌, inl, inr}
 use mathlib.Core.Bool.{Bool, true, false, true≢false}
-use mathlib.Core.List.{List, [], ◌∷◌}
+use mathlib.Core.List.{List}
 use mathlib.Core.Option.{some, none}
-use Prim.Native.Nat.{ℕ, suc, ◌+◌, ◌≤◌, ◌<◌}
+use Prim.Native.Nat.{ℕ, ◌+◌, ◌≤◌, ◌<◌}
 use native.Mathlib.Omega.{arith}
 use native.Mathlib.Decide.{dec_lt}
-use lib.Dec.{eqb}
-use lib.ListN.{length}
-use borrow.Author.Tests.{eqb-true, eqb-false}
 use Rattle.model.specs.Case.{Cell, MK, LN, Table, Run, Learnt}
 use Rattle.model.specs.Stored.{table_in, run_in}
 use Rattle.model.proofs.Read.{clash}
@@ -37,59 +34,41 @@ use Rattle.granting.proofs.KinLaws.{kin_below}
 pub may_mays : (T : Table) (rep : List ℕ) (ev : Run) → Mays T ev (class_at rep) (May T rep)
 may_mays T rep ev c d i j kin two never m mr right ms e = never (record { kin = kin; apart = λ z. two (sym i ∙ (z ∙ j)); meet = λ none. none m mr ms e })
 
--- ---- counting
-
-missing_step : (x y : ℕ) (xs ys : List ℕ) → (x ≡ 1 → y ≡ 1) → missing ys ≤ missing xs → missing (y ∷ ys) ≤ missing (x ∷ xs)
-missing_step x y xs ys k rest = go (eqb x 1) (eqb y 1) refl refl
-  where
-    go : (b d : Bool) → eqb x 1 ≡ b → eqb y 1 ≡ d → missing (y ∷ ys) ≤ missing (x ∷ xs)
-    go true true q i = rw (q, i) (omega (arith, rest))
-    go true false q i = absurd (eqb-false y 1 i (k (eqb-true x 1 q)))
-    go false true q i = rw (q, i) (omega (arith, rest))
-    go false false q i = rw (q, i) (omega (arith, rest))
-
-missing_kept : (m r : List ℕ) → length m ≡ length r → ((c : ℕ) → On m c → On r c) → missing r ≤ missing m
-missing_kept [] [] l k = omega arith
-missing_kept [] (y ∷ ys) l k = absurd (omega arith)
-missing_kept (x ∷ xs) [] l k = absurd (omega arith)
-missing_kept (x ∷ xs) (y ∷ ys) l k = missing_step x y xs ys (k 0) (missing_kept xs ys (omega arith) (λ c o. k (suc c) o))
-
 -- ---- rounds
 
-module _ {T : Table} {n : ℕ} {rep run : List ℕ} {p : ℕ} {s b s' b' : List ℕ} {ch : Bool} (t : Turned T n rep s b s' b' ch) where
-  module _ (ls : length s ≡ 129) (ls' : length s' ≡ 129) (lb : length b ≡ 129) (lb' : length b' ≡ 129) {need b₂ : List ℕ} {ch₂ : Bool} (g : Granting T n rep need s' b' b₂ ch₂ n) where
-    pub rounded_grant : ch₂ ≡ true → Rounded T n rep run p s b s' b₂ ch₂
-    rounded_grant i = record {
-      more = record { seen_marked = t.seen_marked; built_marked = g.grown.marked; seen_kept = t.seen_kept; built_kept = λ c o. g.grown.kept c (t.built_kept c o) };
-      still = λ j. absurd (true≢false (sym i ∙ j));
-      moved = λ j. omega (arith, missing_kept s s' (ls ∙ sym ls') t.seen_kept, missing_kept b b' (lb ∙ sym lb') t.built_kept, g.grown.moved i);
-    }
+module _ {T : Table} {n : ℕ} {rep run : List ℕ} {p : ℕ} {s b s' b' : List ℕ} {ch : Bool} (t : Turned T n rep s b s' b' ch) (down : missing s' + missing b' ≤ missing s + missing b) {need b₂ : List ℕ} {ch₂ : Bool} (g : Granting T n rep need s' b' b₂ ch₂ n) where
+  pub rounded_grant : ch₂ ≡ true → Rounded T n rep run p s b s' b₂ ch₂
+  rounded_grant i = record {
+    more = record { seen_marked = t.seen_marked; built_marked = g.grown.marked; seen_kept = t.seen_kept; built_kept = λ c o. g.grown.kept c (t.built_kept c o) };
+    still = λ j. absurd (true≢false (sym i ∙ j));
+    moved = λ j. omega (arith, down, g.grown.moved i);
+  }
 
-    -- Where no rule adds a mark.
-    still_all : ch ≡ false → ch₂ ≡ false → NeedRow T rep s' b' need → Tight T n rep run p s' → Still T n rep run p s' b₂
-    still_all i j needs tight =
-        let e : b₂ ≡ b' = g.grown.same j in
-        record {
-          still = subst (λ z. (c : ℕ) → c < n → (Newly T rep s' z c → ⊥) × (Shows T rep s' z c → ⊥)) (sym e) (t.still i);
-          need = need;
-          needs = subst (λ z. NeedRow T rep s' z need) (sym e) needs;
-          earns = g.still j;
-          tight = tight;
-        }
+  -- Where no rule adds a mark.
+  still_all : ch ≡ false → ch₂ ≡ false → NeedRow T rep s' b' need → Tight T n rep run p s' → Still T n rep run p s' b₂
+  still_all i j needs tight =
+      let e : b₂ ≡ b' = g.grown.same j in
+      record {
+        still = subst (λ z. (c : ℕ) → c < n → (Newly T rep s' z c → ⊥) × (Shows T rep s' z c → ⊥)) (sym e) (t.still i);
+        need = need;
+        needs = subst (λ z. NeedRow T rep s' z need) (sym e) needs;
+        earns = g.still j;
+        tight = tight;
+      }
 
-    pub rounded_leak : ch ≡ false → ch₂ ≡ false → NeedRow T rep s' b' need → {s₂ : List ℕ} {ch₃ : Bool} → Leaked T n rep run p s' s₂ ch₃ → Rounded T n rep run p s b s₂ b₂ ch₃
-    rounded_leak i j needs {s₂} {ch₃} l = record {
-      more = record {
-        seen_marked = l.grown.marked;
-        built_marked = g.grown.marked;
-        seen_kept = λ c o. l.grown.kept c (t.seen_kept c o);
-        built_kept = λ c o. g.grown.kept c (t.built_kept c o);
-      };
-      still = λ f.
-          let e : s₂ ≡ s' = l.grown.same f in
-          subst (λ z. Still T n rep run p z b₂) (sym e) (still_all i j needs (subst (λ z. Tight T n rep run p z) e (l.tight f)));
-      moved = λ f. omega (arith, missing_kept s s' (ls ∙ sym ls') t.seen_kept, missing_kept b b' (lb ∙ sym lb') t.built_kept, g.grown.down, l.grown.moved f);
-    }
+  pub rounded_leak : ch ≡ false → ch₂ ≡ false → NeedRow T rep s' b' need → {s₂ : List ℕ} {ch₃ : Bool} → Leaked T n rep run p s' s₂ ch₃ → Rounded T n rep run p s b s₂ b₂ ch₃
+  rounded_leak i j needs {s₂} {ch₃} l = record {
+    more = record {
+      seen_marked = l.grown.marked;
+      built_marked = g.grown.marked;
+      seen_kept = λ c o. l.grown.kept c (t.seen_kept c o);
+      built_kept = λ c o. g.grown.kept c (t.built_kept c o);
+    };
+    still = λ f.
+        let e : s₂ ≡ s' = l.grown.same f in
+        subst (λ z. Still T n rep run p z b₂) (sym e) (still_all i j needs (subst (λ z. Tight T n rep run p z) e (l.tight f)));
+    moved = λ f. omega (arith, down, g.grown.down, l.grown.moved f);
+  }
 
 -- ---- rounds until nothing changes
 

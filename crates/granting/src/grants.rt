@@ -10,7 +10,7 @@ ghost use Rattle.granting.specs.Grants.{Rounded, Grants, GrantRows};
 use super::leaks::leaked;
 use super::meets::grant;
 use cells::{Run, Table};
-use knowledge::{Marks, Turn, sweep};
+use knowledge::{Marks, sweep};
 use wants::sets::needed;
 use wants::{bares, free_at};
 
@@ -34,14 +34,7 @@ fn round(table: &Table, rep: &[u8; 129], run: &Run, p: usize, marks: &mut Marks)
     requires mark_row_2 { MarkRow rep.now marks.old.built }
     ensures { Rounded (table_in table.now.words) table.now.count rep.now run.now p marks.old.seen marks.old.built marks.new.seen marks.new.built result }
 {
-    let Turn {
-        seen,
-        built,
-        changed,
-    } = sweep(table, rep, marks.seen, marks.built);
-    marks.seen = seen;
-    marks.built = built;
-    if changed {
+    if sweep(table, rep, marks) {
         return true;
     }
     let keys = needed(table, rep, &marks.seen, &marks.built, [0; 129]);

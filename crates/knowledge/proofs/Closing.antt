@@ -1,5 +1,5 @@
 -- Marks on the way, and that marks at which two sweeps in turn change nothing are exactly what is seen and built.
-use mathlib.Core.Path.{◌≡◌, refl, sym, ◌∙◌, ap, subst}
+use mathlib.Core.Path.{◌≡◌, sym, ◌∙◌, ap, subst}
 use mathlib.Core.Logic.{◌⊎◌, inl, inr, ◌↔◌}
 use mathlib.Core.Bool.{Bool, false}
 use mathlib.Core.List.{List}
@@ -100,8 +100,8 @@ module _ (T : Table) {n : ℕ} {rep : List ℕ} (w : ClassRow n rep) (beyond : (
     }
 
   -- So where a turn changes nothing, the marks are found.
-  pub opened : {s₀ s b s' b' : List ℕ} → Between T rep s₀ b₀ s b → Turned T n rep s b s' b' false → Opened T rep s₀ (record { seen = s'; built = b' })
-  opened {s₀} {s} {b} {s'} {b'} x t = record {
+  pub opened : {s₀ s b s' b' : List ℕ} {ch : Bool} → Between T rep s₀ b₀ s b → Turned T n rep s b s' b' ch → ch ≡ false → Opened T rep s₀ (record { seen = s'; built = b' })
+  opened {s₀} {s} {b} {s'} {b'} x t stopped = record {
     seen = λ ev p st c. ((exact ev p st seen c).1, (exact ev p st seen c).0);
     built = λ ev p st c. ((exact ev p st built c).1, (exact ev p st built c).0);
     seen_marked = t.seen_marked;
@@ -116,4 +116,4 @@ module _ (T : Table) {n : ℕ} {rep : List ℕ} (w : ClassRow n rep) (beyond : (
       sound ev p st built c o = y.built_sound ev p st.high (own_sound ev p) c o
 
       exact : (ev : Run) (p : ℕ) → Starts T rep ev p s₀ → (side : Side) (c : ℕ) → Mark T (class_at rep) ev p side c ↔ sideOn (On s') (On b') side (class_at rep c)
-      exact ev p st = mark_exact T (class_at rep) ev p w.idem (On s') (On b') (still_swept s' b' y.built_kept (t.still refl) ev p s₀ y.seen_kept st) (sound ev p st)
+      exact ev p st = mark_exact T (class_at rep) ev p w.idem (On s') (On b') (still_swept s' b' y.built_kept (t.still stopped) ev p s₀ y.seen_kept st) (sound ev p st)

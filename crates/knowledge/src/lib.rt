@@ -5,14 +5,14 @@
 
 pub mod heard;
 
-ghost use Rattle.std.specs.Prelude.{◌≡◌, ℕ, ◌≤◌, ◌<◌};
+ghost use Rattle.std.specs.Prelude.{◌≡◌, ℕ, ◌+◌, ◌≤◌, ◌<◌};
 ghost use Rattle.model.specs.Case.{Part};
 ghost use Rattle.model.specs.Stored.{table_in};
 ghost use Rattle.theory.specs.Cells.{class_at, On};
 ghost use Rattle.theory.specs.Decides.{Decides};
 ghost use Rattle.cells.specs.Cells.{as_cell};
 ghost use Rattle.knowledge.specs.Knowledge.{ClassRow, MarkRow, Learns, Opened};
-ghost use Rattle.knowledge.specs.Sweeps.{left_part, right_part, Given, MadeBy, Gives, Newly, Finds, Rising, Falling, Turned, OwnMarks};
+ghost use Rattle.knowledge.specs.Sweeps.{left_part, right_part, Given, MadeBy, Gives, Newly, Finds, Rising, Falling, Turned, OwnMarks, missing};
 
 use cells::{Cell, Opening, Parts, Table, cell_within, made_of, opens, parts_of};
 use classes::class_within;
@@ -29,14 +29,6 @@ pub struct Marks {
 pub struct Ends {
     pub left: usize,
     pub right: usize,
-}
-
-// The marks after a sweep upwards and one downwards, and whether they added any.
-#[derive(Clone, Copy, Debug, PartialEq, Eq)]
-pub struct Turn {
-    pub seen: [u8; 129],
-    pub built: [u8; 129],
-    pub changed: bool,
 }
 
 // Is the cell k built without any part: his own name, or a free cell, which he chooses?
@@ -192,20 +184,17 @@ fn fall(table: &Table, rep: &[u8; 129], seen: &mut [u8; 129], built: &[u8; 129])
     changed
 }
 
-// One sweep upwards and one downwards.
-pub fn sweep(table: &Table, rep: &[u8; 129], mut seen: [u8; 129], mut built: [u8; 129]) -> Turn
+// One sweep upwards and one downwards. Says whether they added any mark.
+pub fn sweep(table: &Table, rep: &[u8; 129], marks: &mut Marks) -> bool
     requires class_row { ClassRow table.now.count rep.now }
-    requires mark_row { MarkRow rep.now seen }
-    requires mark_row_2 { MarkRow rep.now built }
-    ensures { Turned (table_in table.now.words) table.now.count rep.now seen built result.seen result.built result.changed }
+    requires mark_row { MarkRow rep.now marks.old.seen }
+    requires mark_row_2 { MarkRow rep.now marks.old.built }
+    ensures turned { Turned (table_in table.now.words) table.now.count rep.now marks.old.seen marks.old.built marks.new.seen marks.new.built result }
+    ensures down { missing marks.new.seen + missing marks.new.built ≤ missing marks.old.seen + missing marks.old.built }
 {
-    let up = rise(table, rep, &seen, &mut built);
-    let down = fall(table, rep, &mut seen, &built);
-    Turn {
-        seen,
-        built,
-        changed: up || down,
-    }
+    let up = rise(table, rep, &marks.seen, &mut marks.built);
+    let down = fall(table, rep, &mut marks.seen, &marks.built);
+    up || down
 }
 
 // Marks his own name as built, if no cell of the table stands for it.
@@ -233,19 +222,13 @@ pub fn learn(n: usize, rep: &[u8; 129], mut seen: [u8; 129], c: usize) -> [u8; 1
 }
 
 // What he sees and can build, from marks of seen cells.
-pub fn open_known(table: &Table, rep: &[u8; 129], mut seen: [u8; 129]) -> Marks
+pub fn open_known(table: &Table, rep: &[u8; 129], seen: [u8; 129]) -> Marks
     requires class_row { ClassRow table.now.count rep.now }
     requires mark_row { MarkRow rep.now seen }
     ensures { Opened (table_in table.now.words) rep.now seen result }
 {
-    let n = table.count;
-    let mut built = own_marks(n, rep);
-    loop {
-        let turn = sweep(table, rep, seen, built);
-        seen = turn.seen;
-        built = turn.built;
-        if !turn.changed {
-            return Marks { seen, built };
-        }
-    }
+    let built = own_marks(table.count, rep);
+    let mut marks = Marks { seen, built };
+    while sweep(table, rep, &mut marks) {}
+    marks
 }

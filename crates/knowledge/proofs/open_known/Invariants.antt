@@ -5,8 +5,8 @@ use Rattle.knowledge.specs.Sweeps.{missing}
 use Rattle.knowledge.proofs.Closing.{Between}
 use Rattle.knowledge.proofs.open_known.Given as goal
 
-abbrev pub invariant-loop-seen : goal.invariant-loop-seen
-invariant-loop-seen l = Between (table_in l.table.words) l.rep l.initial.seen l.initial.built l.seen l.built
+abbrev pub invariant-loop : goal.invariant-loop
+invariant-loop l = Between (table_in l.table.words) l.rep l.initial.marks.seen l.initial.marks.built l.marks.seen l.marks.built
 
-abbrev pub decreases-loop-seen : goal.decreases-loop-seen
-decreases-loop-seen l = missing l.seen + missing l.built
+abbrev pub decreases-loop : goal.decreases-loop
+decreases-loop l = missing l.marks.seen + missing l.marks.built
