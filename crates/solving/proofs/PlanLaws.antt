@@ -7,7 +7,7 @@ use Prim.Native.Nat.{ℕ, ◌+◌, ◌<◌}
 use native.Mathlib.Omega.{arith}
 use native.Mathlib.Decide.{dec_lt}
 use lib.ListN.{get_or}
-use Rattle.std.specs.Prelude.{Option, Some, None}
+use Rattle.std.specs.Prelude.{Option, Some, None, IfSome}
 use Rattle.model.specs.Case.{MK, LN, Table, Run, Part, Learnt}
 use Rattle.model.specs.Stored.{table_in, run_in, event_in, aim}
 use Rattle.model.proofs.Read.{clash}
@@ -195,7 +195,7 @@ module _ {n : ℕ} {words rep : List ℕ} (w : TableWords n words) (s : Solved n
   pub staged_first : (ev : Run) {own : List ℕ} {st : Stage} → FirstStage own st → OwnMarks n rep own → Staged T' n ev rep 0 st
   staged_first ev {own} {st} f o = record {
     starts = record { low = λ c (q, lt, i). absurd (omega arith); high = λ c z. absurd (none_on c (subst (λ (s : List ℕ). On s c) f.seen z)) };
-    exact = λ i. absurd (true≢false (sym i ∙ f.fresh));
+    exact = subst (λ b. IfSome b (Exact T' rep ev 0 st.seen)) (sym f.built) tt;
     heard = heard_none rep ev st.grant.seen;
     zero = own;
     own = o;
@@ -204,7 +204,7 @@ module _ {n : ℕ} {words rep : List ℕ} (w : TableWords n words) (s : Solved n
   }
 
   module _ (count p : ℕ) (run : List ℕ) {y z : ℕ} (told : y ≡ aim (event_in (get_or run p 0))) (make : run_in count run p ≡ some (MK z)) {st : Stage}
-      (v : Staged T' n (run_in count run) rep p st) {o : Marks} (x : Reopened T' rep st.fresh st.marks.seen st.marks.built o) where
+      (v : Staged T' n (run_in count run) rep p st) {o : Marks} (x : Reopened T' rep st.seen st.built o) where
     abbrev ev' : Run
     ev' = run_in count run
 
@@ -222,7 +222,7 @@ module _ {n : ℕ} {words rep : List ℕ} (w : TableWords n words) (s : Solved n
     pub staged_built : On o.built (class_at rep y) → Staged T' n ev' rep (p + 1) (fresh_stage st.dead o st.grant st.best)
     staged_built b = record {
       starts = exact_starts row' next;
-      exact = λ _. next;
+      exact = next;
       heard = heard_make rep ev' p y st.grant.seen v.heard at;
       zero = v.zero;
       own = v.own;
@@ -239,7 +239,7 @@ module _ {n : ℕ} {words rep : List ℕ} (w : TableWords n words) (s : Solved n
         let kept : (d : ℕ) → On v.zero d → On g.built d = λ d j. q.more.built_kept d (v.kept d j) in
         record {
           starts = exact_starts row' next;
-          exact = λ _. next;
+          exact = next;
           heard = subst (λ s. (d : ℕ) → Learnt ev' (p + 1) d → On s (class_at rep d)) (sym i.seen) (heard_make rep ev' p y g.seen heard at);
           zero = v.zero;
           own = v.own;
@@ -256,18 +256,18 @@ module _ {n : ℕ} {words rep : List ℕ} (w : TableWords n words) (s : Solved n
 
 -- A stage with another plan.
 abbrev pub with_best : Stage → Choice → Stage
-with_best j r = record { fresh = j.fresh; dead = j.dead; marks = j.marks; grant = j.grant; best = Some r }
+with_best j r = record { dead = j.dead; seen = j.seen; built = j.built; grant = j.grant; best = Some r }
 
 -- How many dead ends the position had says nothing of a stage.
 pub staged_dead : {T : Table} {n p d : ℕ} {ev : Run} {rep : List ℕ} {st : Stage} → Staged T n ev rep p st →
-    Staged T n ev rep p (record { fresh = st.fresh; dead = d; marks = st.marks; grant = st.grant; best = st.best })
+    Staged T n ev rep p (record { dead = d; seen = st.seen; built = st.built; grant = st.grant; best = st.best })
 staged_dead v = record { starts = v.starts; exact = v.exact; heard = v.heard; zero = v.zero; own = v.own; kept = v.kept; planned = v.planned }
 
 -- The rows of a first stage, of one whose marks are found, and of what is granted after an MK.
 pub rows_first : {T : Table} {n : ℕ} {rep run own : List ℕ} {st : Stage} → FirstStage own st → MarkRow rep own → StageRows T n rep run st
 rows_first {rep = rep} f o = record {
   seen = subst (MarkRow rep) (sym f.seen) none_marked;
-  built = subst (MarkRow rep) (sym f.built) none_marked;
+  built = subst (λ b. IfSome b (MarkRow rep)) (sym f.built) tt;
   grant = record {
     seen_marked = subst (MarkRow rep) (sym f.lit) none_marked;
     built_marked = subst (MarkRow rep) (sym f.had) o;
@@ -292,7 +292,7 @@ rows_made {T} {n} {rep} {run} {g} {g'} v i = record {
 
 -- An MK of what is not built: the stage j whose marks are found and to which what is tried is granted, with the better plan.
 pub made_tries : {n : ℕ} {words rep run : List ℕ} (w : TableWords n words) (s : Solved n (table_in words) rep) {p y : ℕ} (told : y ≡ aim (event_in (get_or run p 0)))
-    {st : Stage} {o : Marks} → Reopened (table_in words) rep st.fresh st.marks.seen st.marks.built o → (On o.built (class_at rep y) → ⊥) →
+    {st : Stage} {o : Marks} → Reopened (table_in words) rep st.seen st.built o → (On o.built (class_at rep y) → ⊥) →
     {g g' : Grant} → GrantRows (table_in words) n rep run g → Grants (table_in words) n rep run p st.grant.seen st.grant.built g.seen g.built →
     {t : Trial} → Chosen (table_in words) n rep o g run p t → Costing g g' → {j : Stage} → j ≡ fresh_stage st.dead o g' st.best → {r : Choice} → Better j.best t r →
     StageRows (table_in words) n rep run (with_best j r) × MadeStage (table_in words) n rep run p st (with_best j r)
@@ -305,7 +305,7 @@ module _ {rep : List ℕ} {x : ℕ} {st r : Stage} (h : HeardStage rep x st r) w
   pub rows_heard : {T : Table} {n : ℕ} {run : List ℕ} → StageRows T n rep run st → StageRows T n rep run r
   rows_heard v = record {
     seen = h.seen.marked;
-    built = subst (MarkRow rep) (sym h.built) v.built;
+    built = subst (λ b. IfSome b (MarkRow rep)) (sym h.built) tt;
     grant = record {
       seen_marked = h.lit.marked;
       built_marked = subst (MarkRow rep) (sym h.had) v.grant.built_marked;
@@ -317,7 +317,7 @@ module _ {rep : List ℕ} {x : ℕ} {st r : Stage} (h : HeardStage rep x st r) w
   pub staged_heard : {m : ℕ} → ClassRow m rep → (T : Table) (n : ℕ) (ev : Run) (p : ℕ) → ev p ≡ some (LN x) → Staged T n ev rep p st → Staged T n ev rep (p + 1) r
   staged_heard w T n ev p at v = record {
     starts = starts_learn T w ev p v.starts x at h.seen;
-    exact = λ e. absurd (true≢false (sym e ∙ h.fresh));
+    exact = subst (λ b. IfSome b (Exact T rep ev (p + 1) r.seen)) (sym h.built) tt;
     heard = heard_learn rep ev p x x st.grant.seen r.grant.seen v.heard at refl h.lit;
     zero = v.zero;
     own = v.own;

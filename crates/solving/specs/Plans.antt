@@ -2,7 +2,7 @@
 -- Exact: rows that are the marks at a position; GrantedAt: rows that are granted there; Chosen: what is tried at a position; Tries: that it is enough; Better: the better of two;
 -- Planned, Plans: what a plan says, of the events before a position and of all; Reopened: marks found again; Costing: what is granted with other costs;
 -- LineChance: a way down that is tried; StageRows, Staged: what is known before a position; fresh_stage, FirstStage: stages that are made; MadeStage, HeardStage, Stepped: one event more.
-use Rattle.std.specs.Prelude.{Option, Some, None, IfSome, IfNone, ◌≡◌, ◌↔◌, Bool, true, false, List, ℕ, ◌+◌, ◌<◌, get_or, replicate}
+use Rattle.std.specs.Prelude.{Option, Some, None, IfSome, IfNone, ◌≡◌, ◌↔◌, false, List, ℕ, ◌+◌, ◌<◌, get_or, replicate}
 use Rattle.std.proofs.Math.Option.{some}
 use Rattle.model.specs.Case.{MK, Table, Run, Learnt, WellFormed}
 use Rattle.model.specs.Stored.{run_in, event_in, aim}
@@ -60,11 +60,11 @@ pub record Plans (T : Table) (ev : Run) (rep : List ℕ) (pl : Option Choice) : 
   pub ready : IfNone pl ((q t : ℕ) → ev q ≡ some (MK t) → Mark T (class_at rep) ev q built t)
   pub tries : IfSome pl λ x. Tries T ev rep x.trial.want x.trial.bare
 
--- The marks r are those at each position at which one may start from the marks seens; if fresh, where the rows seens and builts are the marks.
-pub record Reopened (T : Table) (rep : List ℕ) (fresh : Bool) (seens builts : List ℕ) (r : Marks) : Type 0 where
+-- The marks r are those at each position at which one may start from the marks seens; if there is a row builts, where the rows seens and builts are the marks.
+pub record Reopened (T : Table) (rep seens : List ℕ) (builts : Option (List ℕ)) (r : Marks) : Type 0 where
   pub seen_marked : MarkRow rep r.seen
   pub built_marked : MarkRow rep r.built
-  pub exact : (ev : Run) (p : ℕ) → Starts T rep ev p seens → (fresh ≡ true → Exact T rep ev p seens builts) → Exact T rep ev p r.seen r.built
+  pub exact : (ev : Run) (p : ℕ) → Starts T rep ev p seens → IfSome builts (Exact T rep ev p seens) → Exact T rep ev p r.seen r.built
 
 -- What is granted differs at most in the costs.
 pub record Costing (g r : Grant) : Type 0 where
@@ -81,14 +81,14 @@ pub record LineChance (T : Table) (rep : List ℕ) (g : Grant) (t : ℕ) (x : Tr
 
 -- The rows of a stage.
 pub record StageRows (T : Table) (n : ℕ) (rep run : List ℕ) (st : Stage) : Type 0 where
-  pub seen : MarkRow rep st.marks.seen
-  pub built : MarkRow rep st.marks.built
+  pub seen : MarkRow rep st.seen
+  pub built : IfSome st.built (MarkRow rep)
   pub grant : GrantRows T n rep run st.grant
 
--- What is known before position p: marks to start from, or, if fresh, the marks; what is granted holds what is learnt, and his own name; a plan of the positions before.
+-- What is known before position p: marks to start from, or, if there are those of what is built, the marks at p; what is granted holds what is learnt, and his own name; a plan of the positions before.
 pub record Staged (T : Table) (n : ℕ) (ev : Run) (rep : List ℕ) (p : ℕ) (st : Stage) : Type 0 where
-  pub starts : Starts T rep ev p st.marks.seen
-  pub exact : st.fresh ≡ true → Exact T rep ev p st.marks.seen st.marks.built
+  pub starts : Starts T rep ev p st.seen
+  pub exact : IfSome st.built (Exact T rep ev p st.seen)
   pub heard : (c : ℕ) → Learnt ev p c → On st.grant.seen (class_at rep c)
   pub zero : List ℕ
   pub own : OwnMarks n rep zero
@@ -97,14 +97,13 @@ pub record Staged (T : Table) (n : ℕ) (ev : Run) (rep : List ℕ) (p : ℕ) (s
 
 -- A stage whose marks o are found.
 abbrev pub fresh_stage : ℕ → Marks → Grant → Option Choice → Stage
-fresh_stage dead o g best = record { fresh = true; dead = dead; marks = o; grant = g; best = best }
+fresh_stage dead o g best = record { dead = dead; seen = o.seen; built = Some o.built; grant = g; best = best }
 
 -- The stage before the first event: nothing is learnt, the marks `own` are granted, and nothing is to be tried.
 pub record FirstStage (own : List ℕ) (st : Stage) : Type 0 where
-  pub fresh : st.fresh ≡ false
   pub calm : st.grant.calm ≡ false
-  pub seen : st.marks.seen ≡ replicate 129 0
-  pub built : st.marks.built ≡ replicate 129 0
+  pub seen : st.seen ≡ replicate 129 0
+  pub built : st.built ≡ None
   pub lit : st.grant.seen ≡ replicate 129 0
   pub had : st.grant.built ≡ own
   pub ready : st.best ≡ None
@@ -116,9 +115,8 @@ MadeStage T n rep run p st r = (count x : ℕ) → run_in count run p ≡ some (
 
 -- An LN of the cell x takes st to r.
 pub record HeardStage (rep : List ℕ) (x : ℕ) (st r : Stage) : Type 0 where
-  pub seen : Learns rep st.marks.seen x r.marks.seen
-  pub built : r.marks.built ≡ st.marks.built
-  pub fresh : r.fresh ≡ false
+  pub seen : Learns rep st.seen x r.seen
+  pub built : r.built ≡ None
   pub calm : r.grant.calm ≡ false
   pub lit : Learns rep st.grant.seen x r.grant.seen
   pub had : r.grant.built ≡ st.grant.built

@@ -10,8 +10,7 @@ use classes::class_of;
 fn value_of(table: &Table, r: usize) -> u8
     ensures { Valued (table_in table.now.words) table.now.count r result }
 {
-    let n = table.count;
-    if n <= r || is_variable(&table.words, r) {
+    if table.count <= r || is_variable(&table.words, r) {
         255
     } else {
         r as u8
@@ -34,9 +33,8 @@ fn entry_of(table: &Table, rep: &[u8; 129], c: usize) -> u8
 pub fn value_list(table: &Table, rep: &[u8; 129]) -> [u8; 128]
     ensures { Listed (table_in table.now.words) table.now.count rep.now result table.now.count }
 {
-    let n = table.count;
     let mut out = [0; 128];
-    for c in 0..n {
+    for c in 0..table.count {
         out[c] = entry_of(table, rep, c);
     }
     out

@@ -66,9 +66,8 @@ pub fn next_pair(
     requires d_bound { from.d ≤ 128 }
     ensures { NextPair (table_in table.now.words) table.now.count rep.now want.now bare.now (place from.c from.d) result }
 {
-    let n = table.count;
     let mut d = from.d;
-    for c in from.c..n {
+    for c in from.c..table.count {
         if let Some(d) = in_row(table, rep, want, bare, Place { c, d }) {
             return Some(Place { c, d });
         }

@@ -1,5 +1,5 @@
 // The choice of what is tried at one step: a position where what is to be made is not built, and the cells that may have to be made equal there.
-ghost use Rattle.std.specs.Prelude.{◌≤◌, ◌<◌, ◌+◌};
+ghost use Rattle.std.specs.Prelude.{IfSome, ◌≤◌, ◌<◌, ◌+◌};
 ghost use Rattle.model.specs.Stored.{table_in, run_in};
 ghost use Rattle.theory.specs.Cells.{RunWords};
 ghost use Rattle.classes.specs.Kept.{Kept, Solved};
@@ -36,12 +36,12 @@ pub struct Choice {
 }
 
 // What is known before a position: the marks of what is seen and built, what is granted, and the best plan so far; none, if nothing is to be tried.
-// Fresh: nothing was learnt since the marks were found; else only those of what is seen are to be started from. Dead: a guide, how many dead ends the position had.
+// Built: the marks found since the last LN; none, if they are still to be found, from those of what is seen. Dead: a guide, how many dead ends the position had.
 #[derive(Clone, Copy, Debug, PartialEq, Eq)]
 struct Stage {
-    pub fresh: bool,
     pub dead: u16,
-    pub marks: Marks,
+    pub seen: [u8; 129],
+    pub built: Option<[u8; 129]>,
     pub grant: Grant,
     pub best: Option<Choice>,
 }
@@ -115,17 +115,16 @@ fn better(best: Option<Choice>, trial: Trial, p: usize, dead: u16) -> Choice
     }
 }
 
-// The marks of what is seen and built: if fresh, these; else found from those of what is seen.
-fn opened(table: &Table, rep: &[u8; 129], fresh: bool, o: Marks) -> Marks
+// The marks of what is seen and built: these, if those of what is built are known; else found from those of what is seen.
+fn opened(table: &Table, rep: &[u8; 129], seen: [u8; 129], built: Option<[u8; 129]>) -> Marks
     requires class_row { ClassRow table.now.count rep.now }
-    requires mark_row { MarkRow rep.now o.seen }
-    requires mark_row_2 { MarkRow rep.now o.built }
-    ensures { Reopened (table_in table.now.words) rep.now fresh o.seen o.built result }
+    requires mark_row { MarkRow rep.now seen }
+    requires mark_row_2 { IfSome built (MarkRow rep.now) }
+    ensures { Reopened (table_in table.now.words) rep.now seen built result }
 {
-    if fresh {
-        o
-    } else {
-        open_known(table, rep, o.seen)
+    match built {
+        Some(built) => Marks { seen, built },
+        None => open_known(table, rep, seen),
     }
 }
 
@@ -138,17 +137,17 @@ fn make(table: &Table, rep: &[u8; 129], run: &Run, p: usize, st: &mut Stage)
     ensures rows { StageRows (table_in table.now.words) table.now.count rep.now run.now st.new }
     ensures made { MadeStage (table_in table.now.words) table.now.count rep.now run.now p st.old st.new }
 {
-    let n = table.count;
     let aim = aim_of(event_at(run, p));
-    st.marks = opened(table, rep, st.fresh, st.marks);
-    st.fresh = true;
-    if has(n, rep, &st.marks.built, aim) {
+    let o = opened(table, rep, st.seen, st.built);
+    st.seen = o.seen;
+    st.built = Some(o.built);
+    if has(table.count, rep, &o.built, aim) {
         return;
     }
     st.grant = granted(table, rep, run, p, st.grant);
     let t = class_of(rep, cell(aim));
     let trial = if st.grant.built[t] == 1 {
-        by_all(table, rep, st.marks, run, p)
+        by_all(table, rep, o, run, p)
     } else {
         by_line(table, rep, &mut st.grant, t)
     };
@@ -158,14 +157,14 @@ fn make(table: &Table, rep: &[u8; 129], run: &Run, p: usize, st: &mut Stage)
 // Takes the stage past an LN of the cell x.
 fn hear(n: usize, rep: &[u8; 129], x: u8, st: &mut Stage)
     requires class_row { ClassRow n rep.now }
-    requires mark_row { MarkRow rep.now st.old.marks.seen }
+    requires mark_row { MarkRow rep.now st.old.seen }
     requires mark_row_2 { MarkRow rep.now st.old.grant.seen }
     requires x_lt_n { x < n }
     requires n_bound { n ≤ 128 }
     ensures { HeardStage rep.now x st.old st.new }
 {
-    st.fresh = false;
-    st.marks.seen = learn(n, rep, st.marks.seen, cell(x));
+    st.seen = learn(n, rep, st.seen, cell(x));
+    st.built = None;
     st.grant.calm = false;
     st.grant.seen = learn(n, rep, st.grant.seen, cell(x));
 }
@@ -178,10 +177,9 @@ fn step(table: &Table, rep: &[u8; 129], run: &Run, p: usize, st: &mut Stage)
     ensures rows { StageRows (table_in table.now.words) table.now.count rep.now run.now st.new }
     ensures stepped { Stepped (table_in table.now.words) table.now.count rep.now run.now p st.old st.new }
 {
-    let n = table.count;
     match event_at(run, p) {
         Event::Make(_) => make(table, rep, run, p, st),
-        Event::Learn(x) => hear(n, rep, x, st),
+        Event::Learn(x) => hear(table.count, rep, x, st),
     }
 }
 
@@ -189,19 +187,16 @@ fn step(table: &Table, rep: &[u8; 129], run: &Run, p: usize, st: &mut Stage)
 fn first_stage(own: [u8; 129]) -> Stage
     ensures { FirstStage own result }
 {
-    let none = [0; 129];
+    let blank = [0; 129];
     Stage {
-        fresh: false,
         dead: 0,
-        marks: Marks {
-            seen: none,
-            built: none,
-        },
+        seen: blank,
+        built: None,
         grant: Grant {
             calm: false,
-            seen: none,
+            seen: blank,
             built: own,
-            bare: none,
+            bare: blank,
             costs: [255; 129],
         },
         best: None,
@@ -220,8 +215,7 @@ pub fn plan(
     requires run_words { RunWords table.now.count run.now count }
     ensures { Plans (table_in table.now.words) (run_in count run.now) rep.now result }
 {
-    let n = table.count;
-    let mut st = first_stage(own_marks(n, rep));
+    let mut st = first_stage(own_marks(table.count, rep));
     for p in 0..count {
         st.dead = dead[p];
         step(table, rep, run, p, &mut st);

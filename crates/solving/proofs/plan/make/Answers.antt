@@ -11,15 +11,15 @@ use Rattle.solving.proofs.PlanLaws.{lacking_goal, chosen_line, staged_built, mad
 use Rattle.solving.proofs.plan.make.Goals as goal
 use Rattle.solving.proofs.plan.make.Goals.{then-st-t-eq1, else-st-t-eq1}
 
-pub opened-st-requires-clause-class_row : goal.opened-st-requires-clause-class_row
-opened-st-requires-clause-class_row c = kept_row c.args.table.now.formed c.requires.solved.kept
+pub opened-o-requires-clause-class_row : goal.opened-o-requires-clause-class_row
+opened-o-requires-clause-class_row c = kept_row c.args.table.now.formed c.requires.solved.kept
 
 pub has-requires-clause-class_row : goal.has-requires-clause-class_row
 has-requires-clause-class_row c = kept_row c.args.table.now.formed c.requires.solved.kept
 
 pub returns-then-has-clause-made : goal.returns-then-has-clause-made
 returns-then-has-clause-made c = λ count x at v.
-    staged_built c.args.table.now.formed c.requires.solved count c.args.p c.args.run.now (c.aim_of-aim.ensures ∙ ap aim c.event_at.ensures) at v c.opened-st.ensures
+    staged_built c.args.table.now.formed c.requires.solved count c.args.p c.args.run.now (c.aim_of-aim.ensures ∙ ap aim c.event_at.ensures) at v c.opened-o.ensures
     (c.has.ensures.yes c.if-has.true)
 
 pub by_line-trial-requires-clause-whole : goal.by_line-trial-requires-clause-whole
@@ -40,13 +40,13 @@ returns c =
     let told : c.aim_of-aim.result ≡ aim (event_in (get_or a.run.now a.p 0)) = c.aim_of-aim.ensures ∙ ap aim c.event_at.ensures in
     elim j.branch [
       | then-st-t-eq1 w ↦ (
-          let (x, y) = made_tries c.args.table.now.formed s.solved told {st = a.st.now} c.opened-st.ensures (c.has.ensures.no c.if-has.false) {g' = g.result} g.ensures.rows g.ensures.marks
-          {t = j.trial} (subst (Chosen T a.table.now.count a.rep.now c.opened-st.result g.result a.run.now a.p) (sym w.trial-is) (Chosen.all w.by_all-trial.ensures.want w.by_all-trial.ensures.bare))
+          let (x, y) = made_tries c.args.table.now.formed s.solved told {st = a.st.now} c.opened-o.ensures (c.has.ensures.no c.if-has.false) {g' = g.result} g.ensures.rows g.ensures.marks
+          {t = j.trial} (subst (Chosen T a.table.now.count a.rep.now c.opened-o.result g.result a.run.now a.p) (sym w.trial-is) (Chosen.all w.by_all-trial.ensures.want w.by_all-trial.ensures.bare))
           (record { calm = refl; seen = refl; built = refl; bare = refl }) w.st-is c.better.ensures in
           record { rows = x; made = y })
       | else-st-t-eq1 w ↦ (
-          let (x, y) = made_tries c.args.table.now.formed s.solved told {st = a.st.now} c.opened-st.ensures (c.has.ensures.no c.if-has.false) {g' = w.by_line-trial.new.g} g.ensures.rows g.ensures.marks
-          {t = j.trial} (subst (Chosen T a.table.now.count a.rep.now c.opened-st.result g.result a.run.now a.p) (sym w.trial-is)
+          let (x, y) = made_tries c.args.table.now.formed s.solved told {st = a.st.now} c.opened-o.ensures (c.has.ensures.no c.if-has.false) {g' = w.by_line-trial.new.g} g.ensures.rows g.ensures.marks
+          {t = j.trial} (subst (Chosen T a.table.now.count a.rep.now c.opened-o.result g.result a.run.now a.p) (sym w.trial-is)
           (chosen_line (c.class_of-t.ensures ∙ ap (class_at a.rep.now) (c.cell.ensures ∙ told)) w.by_line-trial.ensures g.ensures.bare))
           w.by_line-trial.ensures.costs w.st-is c.better.ensures in
           record { rows = x; made = y })
