@@ -7,11 +7,11 @@ ghost use Rattle.theory.specs.Cells.{class_at};
 ghost use Rattle.building.specs.Promise.{MarksPromise};
 ghost use Rattle.building.specs.Lay.{Lays};
 
-use classes::class_within;
+use classes::{Row, class_within};
 use refusals::{Fault, Refusal};
 
 // Lays the marks of the classes of the cells at the front of the buffer.
-fn lay_marks(n: usize, rep: &[u8; 129], built: &[u8; 129], out: &mut [u8])
+fn lay_marks(n: usize, rep: &Row, built: &Row, out: &mut [u8])
     requires n_bound { n ≤ 128 }
     requires by_index { (c : ℕ) → class_at rep.now c ≤ 128 }
     requires n_in_bounds { n ≤ length out.old }

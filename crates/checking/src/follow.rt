@@ -6,9 +6,10 @@ ghost use Rattle.classes.specs.Kept.{Kept};
 ghost use Rattle.checking.specs.Follow.{Inside, Binds, Gathers, Follows};
 
 use cells::{Table, is_variable};
+use classes::Row;
 
 // The cell c, if it is a variable, in one class with the cell x.
-fn bind_entry(table: &Table, rep: [u8; 129], c: u8, x: u8) -> [u8; 129]
+fn bind_entry(table: &Table, rep: Row, c: u8, x: u8) -> Row
     requires kept { Kept table.now.count (table_in table.now.words) rep }
     requires c_lt_n { c < table.now.count }
     requires x_lt_n { table_in table.now.words c ≡ VA → x < table.now.count }
@@ -21,7 +22,7 @@ fn bind_entry(table: &Table, rep: [u8; 129], c: u8, x: u8) -> [u8; 129]
 }
 
 // The entries of the list as equalities of the classes.
-fn gather(table: &Table, list: &[u8]) -> [u8; 129]
+fn gather(table: &Table, list: &[u8]) -> Row
     requires list_len { length list.now ≡ table.now.count }
     requires inside { Inside table.now.count (table_in table.now.words) list.now }
     ensures { Gathers table.now.count (table_in table.now.words) list.now result }
@@ -36,7 +37,7 @@ fn gather(table: &Table, list: &[u8]) -> [u8; 129]
 }
 
 // The classes of the cells that the list puts together, with all that this asks for; none if following it comes round.
-pub fn follow(table: &Table, list: &[u8]) -> Option<[u8; 129]>
+pub fn follow(table: &Table, list: &[u8]) -> Option<Row>
     requires list_len { length list.now ≡ table.now.count }
     requires inside { Inside table.now.count (table_in table.now.words) list.now }
     ensures { Follows table.now.count (table_in table.now.words) list.now result }

@@ -6,10 +6,11 @@ ghost use Rattle.knowledge.specs.Knowledge.{ClassRow};
 ghost use Rattle.checking.specs.Made.{MadeAt, AllMade};
 
 use cells::{Event, Run, Table, event_at};
+use classes::Row;
 use knowledge::heard::learnt_before;
 
 // Is what the event at p asks for built from what was learnt before it? An LN asks for nothing.
-fn made_at(table: &Table, rep: &[u8; 129], run: &Run, count: usize, p: usize) -> bool
+fn made_at(table: &Table, rep: &Row, run: &Run, count: usize, p: usize) -> bool
     requires class_row { ClassRow table.now.count rep.now }
     requires run_words { RunWords table.now.count run.now count }
     requires p_lt_count { p < count }
@@ -27,7 +28,7 @@ fn made_at(table: &Table, rep: &[u8; 129], run: &Run, count: usize, p: usize) ->
 }
 
 // Is every MK cell built from what was learnt before it?
-pub fn all_made(table: &Table, rep: &[u8; 129], run: &Run, count: usize) -> bool
+pub fn all_made(table: &Table, rep: &Row, run: &Run, count: usize) -> bool
     requires class_row { ClassRow table.now.count rep.now }
     requires run_words { RunWords table.now.count run.now count }
     ensures { AllMade (table_in table.now.words) rep.now (run_in count run.now) result }

@@ -10,6 +10,7 @@ ghost use Rattle.equating.specs.Entries.{entry_of, list_of};
 ghost use Rattle.equating.specs.Promise.{EquatePromise};
 
 use cells::{Words, is_variable};
+use classes::Row;
 use refusals::{Fault, Refusal};
 
 // Is a or b none of n cells?
@@ -20,7 +21,7 @@ fn outside(n: usize, a: usize, b: usize) -> bool
 }
 
 // The entry of the cell c: for a variable the cell that stands for its class, for any other cell its own number.
-fn entry(words: &Words, rep: &[u8; 129], c: usize) -> u8
+fn entry(words: &Words, rep: &Row, c: usize) -> u8
     requires { c < 128 }
     ensures { result ≡ entry_of (table_in words.now c) (get_or rep.now c 0) c }
 {
@@ -32,7 +33,7 @@ fn entry(words: &Words, rep: &[u8; 129], c: usize) -> u8
 }
 
 // Writes the entries of n cells to the front of the buffer.
-fn write_list(words: &Words, rep: &[u8; 129], n: usize, out: &mut [u8])
+fn write_list(words: &Words, rep: &Row, n: usize, out: &mut [u8])
     requires { (n ≤ 128) × (n ≤ length out.old) }
     ensures { out.new ≡ laid (list_of (table_in words.now) rep.now n) out.old }
 {

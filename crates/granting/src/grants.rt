@@ -10,6 +10,7 @@ ghost use Rattle.granting.specs.Grants.{Rounded, Grants, GrantRows};
 use super::leaks::leaked;
 use super::meets::grant;
 use cells::{Run, Table};
+use classes::Row;
 use knowledge::{Marks, sweep};
 use wants::sets::needed;
 use wants::{bares, free_at};
@@ -19,15 +20,15 @@ use wants::{bares, free_at};
 #[derive(Clone, Copy, Debug, PartialEq, Eq)]
 pub struct Grant {
     pub calm: bool,
-    pub seen: [u8; 129],
-    pub built: [u8; 129],
-    pub bare: [u8; 129],
-    pub costs: [u8; 129],
+    pub seen: Row,
+    pub built: Row,
+    pub bare: Row,
+    pub costs: Row,
 }
 
 // One round of the rules: the first of them that adds marks. Did any?
 #[tactic(auto, using(knowledge::proofs::ClassRows::kept_row))]
-fn round(table: &Table, rep: &[u8; 129], run: &Run, p: usize, marks: &mut Marks) -> bool
+fn round(table: &Table, rep: &Row, run: &Run, p: usize, marks: &mut Marks) -> bool
     requires kept { Kept table.now.count (table_in table.now.words) rep.now }
     requires run_words { RunWords table.now.count run.now p }
     requires mark_row { MarkRow rep.now marks.old.seen }
@@ -43,7 +44,7 @@ fn round(table: &Table, rep: &[u8; 129], run: &Run, p: usize, marks: &mut Marks)
 }
 
 // What may be seen and built before p, from marks on.
-fn closed(table: &Table, rep: &[u8; 129], run: &Run, p: usize, o: Marks) -> Marks
+fn closed(table: &Table, rep: &Row, run: &Run, p: usize, o: Marks) -> Marks
     requires kept { Kept table.now.count (table_in table.now.words) rep.now }
     requires run_words { RunWords table.now.count run.now p }
     requires mark_row { MarkRow rep.now o.seen }
@@ -56,7 +57,7 @@ fn closed(table: &Table, rep: &[u8; 129], run: &Run, p: usize, o: Marks) -> Mark
 }
 
 // Is no free class seen?
-fn is_calm(table: &Table, seen: &[u8; 129]) -> bool
+fn is_calm(table: &Table, seen: &Row) -> bool
     requires { table.now.count ≤ 128 }
     ensures { result ≡ true → (c : ℕ) → c < table.now.count → FreeAt (table_in table.now.words) seen.now c → ⊥ }
 {
@@ -65,13 +66,13 @@ fn is_calm(table: &Table, seen: &[u8; 129]) -> bool
 }
 
 // A guide: the costs before any is known: 254 of what is built, 255 of the rest.
-fn start_costs(built: &[u8; 129]) -> [u8; 129] {
+fn start_costs(built: &Row) -> Row {
     built.map(|mark| if mark == 1 { 254 } else { 255 })
 }
 
 // What is granted before p, from what was granted before.
 #[tactic(auto, using(knowledge::proofs::ClassRows::kept_row))]
-pub fn granted(table: &Table, rep: &[u8; 129], run: &Run, p: usize, g: Grant) -> Grant
+pub fn granted(table: &Table, rep: &Row, run: &Run, p: usize, g: Grant) -> Grant
     requires kept { Kept table.now.count (table_in table.now.words) rep.now }
     requires run_words { RunWords table.now.count run.now p }
     requires grant_rows { GrantRows (table_in table.now.words) table.now.count rep.now run.now g }

@@ -10,12 +10,13 @@ ghost use Rattle.granting.specs.Leaks.{Bright, LeakTold, LeakingRow, Leaking, Le
 
 use super::meets::may;
 use cells::{Run, Table, kin_at};
+use classes::Row;
 use knowledge::Ends;
 use wants::ends;
 use wants::sets::{holds, over};
 
 // Does y come to light, in the place of x?
-fn bright(held: &[u8; 129], seen: &[u8; 129], x: usize, y: usize) -> bool
+fn bright(held: &Row, seen: &Row, x: usize, y: usize) -> bool
     requires x_bound { x ≤ 128 }
     requires y_bound { y ≤ 128 }
     ensures { Decides result (Bright held.now seen.now x y) }
@@ -33,13 +34,7 @@ struct Against {
 
 // A part of d that comes to light if c is equal to d.
 #[tactic(auto, using(knowledge::proofs::ClassRows::kept_row))]
-fn leak_at(
-    table: &Table,
-    rep: &[u8; 129],
-    held: &[u8; 129],
-    seen: &[u8; 129],
-    at: Against,
-) -> Option<usize>
+fn leak_at(table: &Table, rep: &Row, held: &Row, seen: &Row, at: Against) -> Option<usize>
     requires kept { Kept table.now.count (table_in table.now.words) rep.now }
     requires c_lt_n { at.c < table.now.count }
     requires d_lt_n { at.d < table.now.count }
@@ -62,13 +57,7 @@ fn leak_at(
 
 // Marks as seen what comes to light of the cells that may be equal to c. Was any marked?
 #[tactic(auto, using(knowledge::proofs::ClassRows::kept_row))]
-fn leak_row(
-    table: &Table,
-    rep: &[u8; 129],
-    held: &[u8; 129],
-    seen: &mut [u8; 129],
-    c: usize,
-) -> bool
+fn leak_row(table: &Table, rep: &Row, held: &Row, seen: &mut Row, c: usize) -> bool
     requires kept { Kept table.now.count (table_in table.now.words) rep.now }
     requires mark_row { MarkRow rep.now seen.old }
     requires c_lt_n { c < table.now.count }
@@ -90,13 +79,7 @@ fn leak_row(
 }
 
 // The same for the first cell of `over` where something comes to light.
-fn leak(
-    table: &Table,
-    rep: &[u8; 129],
-    held: &[u8; 129],
-    over: &[u8; 129],
-    seen: &mut [u8; 129],
-) -> bool
+fn leak(table: &Table, rep: &Row, held: &Row, over: &Row, seen: &mut Row) -> bool
     requires kept { Kept table.now.count (table_in table.now.words) rep.now }
     requires mark_row { MarkRow rep.now seen.old }
     ensures { Leaking (table_in table.now.words) table.now.count rep.now held.now over.now seen.old seen.new result }
@@ -112,7 +95,7 @@ fn leak(
 
 // Marks as seen what comes to light before p. Was any marked?
 #[tactic(auto, using(knowledge::proofs::ClassRows::kept_row))]
-pub fn leaked(table: &Table, rep: &[u8; 129], run: &Run, p: usize, seen: &mut [u8; 129]) -> bool
+pub fn leaked(table: &Table, rep: &Row, run: &Run, p: usize, seen: &mut Row) -> bool
     requires kept { Kept table.now.count (table_in table.now.words) rep.now }
     requires run_words { RunWords table.now.count run.now p }
     requires mark_row { MarkRow rep.now seen.old }

@@ -7,6 +7,7 @@ ghost use Rattle.granting.specs.Line.{Whole, Lacking, Below, LineRow};
 use super::grants::Grant;
 use super::meets::near;
 use cells::Table;
+use classes::Row;
 use wants::ends;
 
 // A guide: the number of cells below n that are live, added to `before`, up to 254.
@@ -36,7 +37,7 @@ struct Depth {
 
 // A guide: how many pairs the best way down from c leaves to try, at most 254. In `costs` it is 255 where it is not known yet.
 #[tactic(auto, using(knowledge::proofs::ClassRows::kept_row))]
-fn cost(table: &Table, rep: &[u8; 129], bare: &[u8; 129], costs: &mut [u8; 129], at: Depth) -> u8
+fn cost(table: &Table, rep: &Row, bare: &Row, costs: &mut Row, at: Depth) -> u8
     requires kept { Kept table.now.count (table_in table.now.words) rep.now }
     requires cell_lt_n { at.cell < table.now.count }
 {
@@ -74,7 +75,7 @@ fn cost(table: &Table, rep: &[u8; 129], bare: &[u8; 129], costs: &mut [u8; 129],
 
 // A class of the parts of c that is not built: the one with the better way. For a cell without parts, its own.
 #[tactic(auto, using(knowledge::proofs::ClassRows::kept_row))]
-fn next(table: &Table, rep: &[u8; 129], built: &[u8; 129], costs: &[u8; 129], c: usize) -> usize
+fn next(table: &Table, rep: &Row, built: &Row, costs: &Row, c: usize) -> usize
     requires kept { Kept table.now.count (table_in table.now.words) rep.now }
     requires whole { Whole (table_in table.now.words) rep.now built.now }
     requires lacking { Lacking table.now.count rep.now built.now c }
@@ -91,13 +92,7 @@ fn next(table: &Table, rep: &[u8; 129], built: &[u8; 129], costs: &[u8; 129], c:
 }
 
 // The cells of a way down from c, which is not built.
-fn way(
-    table: &Table,
-    rep: &[u8; 129],
-    built: &[u8; 129],
-    costs: &[u8; 129],
-    goal: usize,
-) -> [u8; 129]
+fn way(table: &Table, rep: &Row, built: &Row, costs: &Row, goal: usize) -> Row
     requires kept { Kept table.now.count (table_in table.now.words) rep.now }
     requires whole { Whole (table_in table.now.words) rep.now built.now }
     requires lacking { Lacking table.now.count rep.now built.now goal }
@@ -119,11 +114,11 @@ fn way(
 #[derive(Clone, Copy, Debug, PartialEq, Eq)]
 pub struct Lined {
     pub pairs: u8,
-    pub cells: [u8; 129],
+    pub cells: Row,
 }
 
 // The best way down from the class c, which is not built; the costs that are worked out for it are kept.
-pub fn line(table: &Table, rep: &[u8; 129], g: Grant, costs: &mut [u8; 129], c: usize) -> Lined
+pub fn line(table: &Table, rep: &Row, g: Grant, costs: &mut Row, c: usize) -> Lined
     requires kept { Kept table.now.count (table_in table.now.words) rep.now }
     requires whole { Whole (table_in table.now.words) rep.now g.built }
     requires lacking { Lacking table.now.count rep.now g.built c }

@@ -9,10 +9,10 @@ ghost use Rattle.granting.specs.Meets.{May, Alone, Granting};
 
 use cells::{Table, kin_at};
 use classes::clash::clash;
-use classes::{class_of, unify};
+use classes::{Row, class_of, unify};
 
 // Is d one of the row `marks`, of the kind of c and of another class, and is there no clash at once? If not, c may not be equal to such a d.
-pub fn near(table: &Table, rep: &[u8; 129], marks: &[u8; 129], c: usize, d: usize) -> bool
+pub fn near(table: &Table, rep: &Row, marks: &Row, c: usize, d: usize) -> bool
     requires kept { Kept table.now.count (table_in table.now.words) rep.now }
     requires c_lt_n { c < table.now.count }
     requires d_lt_n { d < table.now.count }
@@ -25,7 +25,7 @@ pub fn near(table: &Table, rep: &[u8; 129], marks: &[u8; 129], c: usize, d: usiz
 }
 
 // May c be equal to d, which is seen? If not, it is not.
-pub fn may(table: &Table, rep: &[u8; 129], seen: &[u8; 129], c: usize, d: usize) -> bool
+pub fn may(table: &Table, rep: &Row, seen: &Row, c: usize, d: usize) -> bool
     requires kept { Kept table.now.count (table_in table.now.words) rep.now }
     requires c_lt_n { c < table.now.count }
     requires d_lt_n { d < table.now.count }
@@ -35,7 +35,7 @@ pub fn may(table: &Table, rep: &[u8; 129], seen: &[u8; 129], c: usize, d: usize)
 }
 
 // May c be equal to a cell that is seen? If not, it is not.
-fn meets(table: &Table, rep: &[u8; 129], seen: &[u8; 129], c: usize) -> bool
+fn meets(table: &Table, rep: &Row, seen: &Row, c: usize) -> bool
     requires kept { Kept table.now.count (table_in table.now.words) rep.now }
     requires c_lt_n { c < table.now.count }
     ensures { result ≡ false → Alone (table_in table.now.words) rep.now seen.now c table.now.count }
@@ -45,7 +45,7 @@ fn meets(table: &Table, rep: &[u8; 129], seen: &[u8; 129], c: usize) -> bool
 }
 
 // Is c one of the row `keys` that is not built?
-fn lacks(keys: &[u8; 129], built: &[u8; 129], c: usize) -> bool
+fn lacks(keys: &Row, built: &Row, c: usize) -> bool
     requires { c < 128 }
     ensures { Decides result (On keys.now c × (On built.now c → ⊥)) }
 {
@@ -53,13 +53,7 @@ fn lacks(keys: &[u8; 129], built: &[u8; 129], c: usize) -> bool
 }
 
 // Marks as built the cells of the row `keys` that may be equal to a cell that is seen. Was any marked?
-pub fn grant(
-    table: &Table,
-    rep: &[u8; 129],
-    keys: &[u8; 129],
-    seen: &[u8; 129],
-    built: &mut [u8; 129],
-) -> bool
+pub fn grant(table: &Table, rep: &Row, keys: &Row, seen: &Row, built: &mut Row) -> bool
     requires kept { Kept table.now.count (table_in table.now.words) rep.now }
     requires mark_row { MarkRow rep.now keys.now }
     requires mark_row_2 { MarkRow rep.now built.old }

@@ -6,16 +6,17 @@ ghost use Rattle.knowledge.specs.Knowledge.{ClassRow};
 ghost use Rattle.knowledge.specs.Heard.{LearntAll, HeardOpened};
 
 use cells::{Event, Run, Table, event_at};
+use classes::Row;
 
 // The class array of a table, and the marks, 0 or 1, of the classes that can be built.
 #[derive(Clone, Copy, Debug, PartialEq, Eq)]
 pub struct Knowledge {
-    pub rep: [u8; 129],
-    pub built: [u8; 129],
+    pub rep: Row,
+    pub built: Row,
 }
 
 // Marks the classes of the cells learnt before position p as seen; an MK adds nothing.
-pub fn learnt_before(n: usize, rep: &[u8; 129], run: &Run, count: usize, p: usize) -> [u8; 129]
+pub fn learnt_before(n: usize, rep: &Row, run: &Run, count: usize, p: usize) -> Row
     requires n_bound { n ≤ 128 }
     requires class_row { ClassRow n rep.now }
     requires run_words { RunWords n run.now count }

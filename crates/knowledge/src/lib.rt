@@ -15,13 +15,13 @@ ghost use Rattle.knowledge.specs.Knowledge.{ClassRow, MarkRow, Learns, Opened};
 ghost use Rattle.knowledge.specs.Sweeps.{left_part, right_part, Given, MadeBy, Gives, Newly, Finds, Rising, Falling, Turned, OwnMarks, missing};
 
 use cells::{Cell, Opening, Parts, Table, cell_within, made_of, opens, parts_of};
-use classes::class_within;
+use classes::{Row, class_within};
 
 // The marks, 0 or 1, of the cells that are seen and of those that can be built.
 #[derive(Clone, Copy, Debug, PartialEq, Eq)]
 pub struct Marks {
-    pub seen: [u8; 129],
-    pub built: [u8; 129],
+    pub seen: Row,
+    pub built: Row,
 }
 
 // The cells that stand for the classes of a cell's parts.
@@ -50,7 +50,7 @@ pub fn cell(x: u8) -> usize
 }
 
 // Is the class of x marked?
-pub fn has(n: usize, rep: &[u8; 129], marks: &[u8; 129], x: u8) -> bool
+pub fn has(n: usize, rep: &Row, marks: &Row, x: u8) -> bool
     requires class_row { ClassRow n rep.now }
     requires x_bound { x ≤ 128 }
     ensures { Decides result (On marks.now (class_at rep.now x)) }
@@ -59,7 +59,7 @@ pub fn has(n: usize, rep: &[u8; 129], marks: &[u8; 129], x: u8) -> bool
 }
 
 // The cells that stand for the classes of the parts of c, a cell k.
-pub fn part_classes(k: Cell, rep: &[u8; 129], c: usize) -> Ends
+pub fn part_classes(k: Cell, rep: &Row, c: usize) -> Ends
     requires c_bound { left_part (as_cell k) c ≤ 128 }
     requires c_bound_2 { right_part (as_cell k) c ≤ 128 }
     ensures left_value { result.left ≡ class_at rep.now (left_part (as_cell k) c) }
@@ -83,7 +83,7 @@ fn same_end(c: usize) -> Ends
 }
 
 // Is the cell k composed of what is built?
-fn is_made(n: usize, k: Cell, rep: &[u8; 129], built: &[u8; 129]) -> bool
+fn is_made(n: usize, k: Cell, rep: &Row, built: &Row) -> bool
     requires class_row { ClassRow n rep.now }
     requires by_index { (d : ℕ) → Part (as_cell k) d → d ≤ 128 }
     ensures { Decides result (MadeBy (as_cell k) rep.now built.now) }
@@ -96,7 +96,7 @@ fn is_made(n: usize, k: Cell, rep: &[u8; 129], built: &[u8; 129]) -> bool
 }
 
 // Does the seen cell k give its parts: does it open, or is it composed of what is built?
-fn gives(n: usize, k: Cell, rep: &[u8; 129], built: &[u8; 129]) -> bool
+fn gives(n: usize, k: Cell, rep: &Row, built: &Row) -> bool
     requires class_row { ClassRow n rep.now }
     requires by_index { (d : ℕ) → Part (as_cell k) d → d ≤ 128 }
     ensures { Decides result (Gives (as_cell k) rep.now built.now) }
@@ -109,7 +109,7 @@ fn gives(n: usize, k: Cell, rep: &[u8; 129], built: &[u8; 129]) -> bool
 }
 
 // Is c to be marked as built?
-fn newly(table: &Table, rep: &[u8; 129], seen: &[u8; 129], built: &[u8; 129], c: usize) -> bool
+fn newly(table: &Table, rep: &Row, seen: &Row, built: &Row, c: usize) -> bool
     requires class_row { ClassRow table.now.count rep.now }
     requires c_lt_n { c < table.now.count }
     ensures { Decides result (Newly (table_in table.now.words) rep.now seen.now built.now c) }
@@ -123,13 +123,7 @@ fn newly(table: &Table, rep: &[u8; 129], seen: &[u8; 129], built: &[u8; 129], c:
 }
 
 // The classes of the parts of c, where they are newly seen.
-fn shows(
-    table: &Table,
-    rep: &[u8; 129],
-    seen: &[u8; 129],
-    built: &[u8; 129],
-    c: usize,
-) -> Option<Ends>
+fn shows(table: &Table, rep: &Row, seen: &Row, built: &Row, c: usize) -> Option<Ends>
     requires class_row { ClassRow table.now.count rep.now }
     requires c_lt_n { c < table.now.count }
     ensures { Finds (table_in table.now.words) rep.now seen.now built.now c result }
@@ -150,7 +144,7 @@ fn shows(
 }
 
 // Marks upwards what is built, and says whether that added any mark.
-fn rise(table: &Table, rep: &[u8; 129], seen: &[u8; 129], built: &mut [u8; 129]) -> bool
+fn rise(table: &Table, rep: &Row, seen: &Row, built: &mut Row) -> bool
     requires class_row { ClassRow table.now.count rep.now }
     requires mark_row { MarkRow rep.now built.old }
     ensures { Rising (table_in table.now.words) rep.now seen.now built.old built.new result table.now.count }
@@ -167,7 +161,7 @@ fn rise(table: &Table, rep: &[u8; 129], seen: &[u8; 129], built: &mut [u8; 129])
 }
 
 // Marks downwards what is seen, and says whether that added any mark.
-fn fall(table: &Table, rep: &[u8; 129], seen: &mut [u8; 129], built: &[u8; 129]) -> bool
+fn fall(table: &Table, rep: &Row, seen: &mut Row, built: &Row) -> bool
     requires class_row { ClassRow table.now.count rep.now }
     requires mark_row { MarkRow rep.now seen.old }
     ensures { Falling (table_in table.now.words) rep.now built.now seen.old seen.new result table.now.count 0 }
@@ -185,7 +179,7 @@ fn fall(table: &Table, rep: &[u8; 129], seen: &mut [u8; 129], built: &[u8; 129])
 }
 
 // One sweep upwards and one downwards. Says whether they added any mark.
-pub fn sweep(table: &Table, rep: &[u8; 129], marks: &mut Marks) -> bool
+pub fn sweep(table: &Table, rep: &Row, marks: &mut Marks) -> bool
     requires class_row { ClassRow table.now.count rep.now }
     requires mark_row { MarkRow rep.now marks.old.seen }
     requires mark_row_2 { MarkRow rep.now marks.old.built }
@@ -198,7 +192,7 @@ pub fn sweep(table: &Table, rep: &[u8; 129], marks: &mut Marks) -> bool
 }
 
 // Marks his own name as built, if no cell of the table stands for it.
-pub fn own_marks(n: usize, rep: &[u8; 129]) -> [u8; 129]
+pub fn own_marks(n: usize, rep: &Row) -> Row
     requires { ClassRow n rep.now }
     ensures { OwnMarks n rep.now result }
 {
@@ -211,7 +205,7 @@ pub fn own_marks(n: usize, rep: &[u8; 129]) -> [u8; 129]
 }
 
 // Marks the class of a learnt cell as seen.
-pub fn learn(n: usize, rep: &[u8; 129], mut seen: [u8; 129], c: usize) -> [u8; 129]
+pub fn learn(n: usize, rep: &Row, mut seen: Row, c: usize) -> Row
     requires class_row { ClassRow n rep.now }
     requires mark_row { MarkRow rep.now seen }
     requires c_bound { c ≤ 128 }
@@ -222,7 +216,7 @@ pub fn learn(n: usize, rep: &[u8; 129], mut seen: [u8; 129], c: usize) -> [u8; 1
 }
 
 // What he sees and can build, from marks of seen cells.
-pub fn open_known(table: &Table, rep: &[u8; 129], seen: [u8; 129]) -> Marks
+pub fn open_known(table: &Table, rep: &Row, seen: Row) -> Marks
     requires class_row { ClassRow table.now.count rep.now }
     requires mark_row { MarkRow rep.now seen }
     ensures { Opened (table_in table.now.words) rep.now seen result }

@@ -5,16 +5,17 @@ ghost use Rattle.cells.specs.Cells.{as_cell};
 ghost use Rattle.reducing.specs.Bare.{height_at, Heights};
 
 use cells::{Cell, Parts, Table, cell_at, parts_of};
+use classes::Row;
 
 // What a row says of the cell d; 0 past its end.
-fn row_at(bytes: &[u8; 129], d: u8) -> u8
+fn row_at(bytes: &Row, d: u8) -> u8
     ensures { result ≡ get_or bytes.now d 0 }
 {
     if d < 129 { bytes[usize::from(d)] } else { 0 }
 }
 
 // The height of a cell's message, from those of its parts.
-fn height_of(k: Cell, heights: &[u8; 129]) -> u8
+fn height_of(k: Cell, heights: &Row) -> u8
     requires { (d : ℕ) → get_or heights.now d 0 < 255 }
     ensures { result ≡ height_at (λ d. get_or heights.now d 0) (as_cell k) }
 {
@@ -26,11 +27,11 @@ fn height_of(k: Cell, heights: &[u8; 129]) -> u8
 }
 
 // The heights of the messages that the cells show.
-pub fn heights(table: &Table) -> [u8; 129]
+pub fn heights(table: &Table) -> Row
     ensures { Heights (table_in table.now.words) table.now.count result }
 {
     let n = table.count;
-    let mut high: [u8; 129] = [0; 129];
+    let mut high: Row = [0; 129];
     for c in 0..n {
         high[c] = height_of(cell_at(&table.words, c), &high);
     }

@@ -10,7 +10,7 @@ ghost use Rattle.reducing.specs.Bare.{Idle, BuiltClass, IsBare, Bares, Keeps, Ad
 ghost use Rattle.reducing.specs.Given.{LowParts, LowClasses, Given};
 
 use cells::{Cell, Parts, Table, cell_at, made_of, parts_of};
-use classes::class_of;
+use classes::{Row, class_of};
 use knowledge::{cell, has};
 
 // Is the cell k name 0, his own?
@@ -21,7 +21,7 @@ fn is_own(k: Cell) -> bool
 }
 
 // Is the cell k name 0, or composed of built parts?
-fn is_idle(n: usize, k: Cell, rep: &[u8; 129], built: &[u8; 129]) -> bool
+fn is_idle(n: usize, k: Cell, rep: &Row, built: &Row) -> bool
     requires { ClassRow n rep.now × LowParts (as_cell k) }
     ensures { Decides result (Idle (BuiltClass rep.now built.now) (as_cell k)) }
 {
@@ -33,7 +33,7 @@ fn is_idle(n: usize, k: Cell, rep: &[u8; 129], built: &[u8; 129]) -> bool
 }
 
 // Does the cell k at the number c stand for its class, and is it bare and not name 0?
-fn is_bare(c: usize, n: usize, k: Cell, rep: &[u8; 129], built: &[u8; 129]) -> bool
+fn is_bare(c: usize, n: usize, k: Cell, rep: &Row, built: &Row) -> bool
     requires { ClassRow n rep.now × LowParts (as_cell k) × (c < 128) }
     ensures { Decides result (IsBare rep.now built.now c (as_cell k)) }
 {
@@ -41,12 +41,12 @@ fn is_bare(c: usize, n: usize, k: Cell, rep: &[u8; 129], built: &[u8; 129]) -> b
 }
 
 // The marks on the bare cells except name 0, one of each class.
-pub fn bare(table: &Table, rep: &[u8; 129], built: &[u8; 129]) -> [u8; 129]
+pub fn bare(table: &Table, rep: &Row, built: &Row) -> Row
     requires { Given table.now.count table.now.words rep.now }
     ensures { Bares (table_in table.now.words) rep.now built.now table.now.count result }
 {
     let n = table.count;
-    let mut marks: [u8; 129] = [0; 129];
+    let mut marks: Row = [0; 129];
     for c in 0..n {
         if is_bare(c, n, cell_at(&table.words, c), rep, built) {
             marks[c] = 1;
@@ -56,7 +56,7 @@ pub fn bare(table: &Table, rep: &[u8; 129], built: &[u8; 129]) -> [u8; 129]
 }
 
 // Marks the class of the cell d.
-fn mark_class(marks: &mut [u8; 129], rep: &[u8; 129], d: u8)
+fn mark_class(marks: &mut Row, rep: &Row, d: u8)
     requires { LowClasses rep.now × (d ≤ 128) }
     ensures { marks.new ≡ set marks.old (class_at rep.now d) 1 }
 {
@@ -64,7 +64,7 @@ fn mark_class(marks: &mut [u8; 129], rep: &[u8; 129], d: u8)
 }
 
 // Marks the classes of a cell's parts.
-fn mark_parts(marks: &mut [u8; 129], k: Cell, rep: &[u8; 129])
+fn mark_parts(marks: &mut Row, k: Cell, rep: &Row)
     requires { LowClasses rep.now × LowParts (as_cell k) }
     ensures { Adds rep.now marks.old (as_cell k) marks.new }
 {
@@ -79,7 +79,7 @@ fn mark_parts(marks: &mut [u8; 129], k: Cell, rep: &[u8; 129])
 }
 
 // The marks on the bare cells and on all that stands in them, from the last cell down.
-pub fn keep(table: &Table, rep: &[u8; 129], bare: &[u8; 129]) -> [u8; 129]
+pub fn keep(table: &Table, rep: &Row, bare: &Row) -> Row
     requires { Given table.now.count table.now.words rep.now × ((c : ℕ) → On bare.now c → c < table.now.count) }
     ensures { Keeps (table_in table.now.words) rep.now bare.now table.now.count result }
 {

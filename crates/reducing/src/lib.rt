@@ -18,6 +18,7 @@ ghost use Rattle.reducing.specs.Plan.{planned, Sized, Plans, PlansRun};
 ghost use Rattle.reducing.specs.Promise.{ReducePromise};
 
 use cells::{Run, Table, Words};
+use classes::Row;
 use refusals::{Fault, Refusal};
 
 // The reduced file before it is written: its table, marks on the cells that it learns, and how many cells and events it has. Rows of fixed size: nothing is allocated.
@@ -30,7 +31,7 @@ struct Plan {
 }
 
 // The plan of the reduced file of a table without variables, from the classes of its cells and the built marks.
-fn make_plan(table: &Table, rep: &[u8; 129], built: &[u8; 129]) -> Plan
+fn make_plan(table: &Table, rep: &Row, built: &Row) -> Plan
     requires { Given table.now.count table.now.words rep.now }
     ensures sized { Sized result }
     ensures reduced { Plans (table_in table.now.words) rep.now built.now result }

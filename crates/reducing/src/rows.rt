@@ -7,6 +7,7 @@ ghost use Rattle.reducing.specs.Plan.{empty_plan, put_row, Laid};
 use super::Plan;
 use super::order::{Numbers, renumbered};
 use cells::{Words, cell_at, word_of};
+use classes::Row;
 
 // The plan without cells.
 fn empty_plan() -> Plan
@@ -32,7 +33,7 @@ fn put_row(plan: &mut Plan, word: u32, b: u8)
 }
 
 // The numbered cells, in the new numbers.
-pub fn lay(words: &Words, rep: &[u8; 129], numbers: &Numbers, bare: &[u8; 129]) -> Plan
+pub fn lay(words: &Words, rep: &Row, numbers: &Numbers, bare: &Row) -> Plan
     requires low_classes { LowClasses rep.now × ((c : ℕ) → LowParts (table_in words.now c)) }
     requires count_bound { (numbers.now.count ≤ 128) × ((j : ℕ) → j < numbers.now.count → get_or numbers.now.old j 0 < 128) }
     ensures { Laid words.now rep.now numbers.now.old numbers.now.new bare.now numbers.now.count result }

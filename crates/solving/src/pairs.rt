@@ -5,11 +5,11 @@ ghost use Rattle.theory.specs.Decides.{Decides};
 ghost use Rattle.solving.specs.Pairs.{Mirrored, Pairs, place, InRow, NextPair};
 
 use cells::{Table, Words, kin_at};
-use classes::class_of;
+use classes::{Row, class_of};
 use granting::Place;
 
 // Does the pair of c and d also stand the other way round, and earlier?
-fn mirrored(want: &[u8; 129], bare: &[u8; 129], c: usize, d: usize) -> bool
+fn mirrored(want: &Row, bare: &Row, c: usize, d: usize) -> bool
     requires c_bound { c < 128 }
     requires d_bound { d < 128 }
     ensures { Decides result (Mirrored want.now bare.now c d) }
@@ -18,14 +18,7 @@ fn mirrored(want: &[u8; 129], bare: &[u8; 129], c: usize, d: usize) -> bool
 }
 
 // Is c a wanted cell that is to be made equal to the bare cell d?
-pub fn pairing(
-    words: &Words,
-    rep: &[u8; 129],
-    want: &[u8; 129],
-    bare: &[u8; 129],
-    c: usize,
-    d: usize,
-) -> bool
+pub fn pairing(words: &Words, rep: &Row, want: &Row, bare: &Row, c: usize, d: usize) -> bool
     requires c_bound { c < 128 }
     requires d_bound { d < 128 }
     ensures { Decides result (Pairs (table_in words.now) rep.now want.now bare.now c d) }
@@ -38,13 +31,7 @@ pub fn pairing(
 }
 
 // The first cell from `from.d` on that is a pair with the cell `from.c`.
-fn in_row(
-    table: &Table,
-    rep: &[u8; 129],
-    want: &[u8; 129],
-    bare: &[u8; 129],
-    from: Place,
-) -> Option<usize>
+fn in_row(table: &Table, rep: &Row, want: &Row, bare: &Row, from: Place) -> Option<usize>
     requires c_lt_n { from.c < table.now.count }
     ensures { InRow (table_in table.now.words) table.now.count rep.now want.now bare.now from.c from.d result }
 {
@@ -56,13 +43,7 @@ fn in_row(
 }
 
 // The next pair from the place `from` on, row by row.
-pub fn next_pair(
-    table: &Table,
-    rep: &[u8; 129],
-    want: &[u8; 129],
-    bare: &[u8; 129],
-    from: Place,
-) -> Option<Place>
+pub fn next_pair(table: &Table, rep: &Row, want: &Row, bare: &Row, from: Place) -> Option<Place>
     requires d_bound { from.d ≤ 128 }
     ensures { NextPair (table_in table.now.words) table.now.count rep.now want.now bare.now (place from.c from.d) result }
 {

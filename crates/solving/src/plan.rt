@@ -12,7 +12,7 @@ ghost use Rattle.solving.specs.Plans.{Better, Reopened, LineChance, StageRows, F
 use super::pairs::pairing;
 use cells::{Event, Run, Table, aim_of, event_at};
 use classes::clash::clash;
-use classes::class_of;
+use classes::{Row, class_of};
 use granting::grants::{Grant, granted};
 use granting::line::{line, live_row};
 use knowledge::{Marks, cell, has, learn, open_known, own_marks};
@@ -23,8 +23,8 @@ use wants::sets::wanted;
 #[derive(Clone, Copy, Debug, PartialEq, Eq)]
 pub struct Trial {
     pub pairs: u8,
-    pub want: [u8; 129],
-    pub bare: [u8; 129],
+    pub want: Row,
+    pub bare: Row,
 }
 
 // The plan of a step: what is tried. The position and the load are guides only.
@@ -40,14 +40,14 @@ pub struct Choice {
 #[derive(Clone, Copy, Debug, PartialEq, Eq)]
 struct Stage {
     pub dead: u16,
-    pub seen: [u8; 129],
-    pub built: Option<[u8; 129]>,
+    pub seen: Row,
+    pub built: Option<Row>,
     pub grant: Grant,
     pub best: Option<Choice>,
 }
 
 // A guide: the number of pairs of a wanted cell and a bare one that do not clash at once, up to 254.
-fn live(table: &Table, rep: &[u8; 129], want: &[u8; 129], bare: &[u8; 129]) -> u8
+fn live(table: &Table, rep: &Row, want: &Row, bare: &Row) -> u8
     requires kept { Kept table.now.count (table_in table.now.words) rep.now }
 {
     let n = table.count;
@@ -64,7 +64,7 @@ fn live(table: &Table, rep: &[u8; 129], want: &[u8; 129], bare: &[u8; 129]) -> u
 }
 
 // All cells that may help at the MK at p, and the bare ones, by the marks of what is seen and built.
-fn by_all(table: &Table, rep: &[u8; 129], o: Marks, run: &Run, p: usize) -> Trial
+fn by_all(table: &Table, rep: &Row, o: Marks, run: &Run, p: usize) -> Trial
     requires kept { Kept table.now.count (table_in table.now.words) rep.now }
     requires mark_row { MarkRow rep.now o.seen }
     requires mark_row_2 { MarkRow rep.now o.built }
@@ -82,7 +82,7 @@ fn by_all(table: &Table, rep: &[u8; 129], o: Marks, run: &Run, p: usize) -> Tria
 }
 
 // A way down from the class t, which is not built by what is granted, with the cells that are bare by it. The costs that were found stay with what is granted.
-fn by_line(table: &Table, rep: &[u8; 129], g: &mut Grant, t: usize) -> Trial
+fn by_line(table: &Table, rep: &Row, g: &mut Grant, t: usize) -> Trial
     requires kept { Kept table.now.count (table_in table.now.words) rep.now }
     requires whole { Whole (table_in table.now.words) rep.now g.old.built }
     requires lacking { Lacking table.now.count rep.now g.old.built t }
@@ -116,7 +116,7 @@ fn better(best: Option<Choice>, trial: Trial, p: usize, dead: u16) -> Choice
 }
 
 // The marks of what is seen and built: these, if those of what is built are known; else found from those of what is seen.
-fn opened(table: &Table, rep: &[u8; 129], seen: [u8; 129], built: Option<[u8; 129]>) -> Marks
+fn opened(table: &Table, rep: &Row, seen: Row, built: Option<Row>) -> Marks
     requires class_row { ClassRow table.now.count rep.now }
     requires mark_row { MarkRow rep.now seen }
     requires mark_row_2 { IfSome built (MarkRow rep.now) }
@@ -130,7 +130,7 @@ fn opened(table: &Table, rep: &[u8; 129], seen: [u8; 129], built: Option<[u8; 12
 
 // Takes the stage past the MK at p. Where what is to be made is not built, a way down is tried if it is not built by what is granted either, with the cells that are bare by that;
 // else all that may help.
-fn make(table: &Table, rep: &[u8; 129], run: &Run, p: usize, st: &mut Stage)
+fn make(table: &Table, rep: &Row, run: &Run, p: usize, st: &mut Stage)
     requires solved { Solved table.now.count (table_in table.now.words) rep.now }
     requires run_words { RunWords table.now.count run.now (p + 1) }
     requires stage_rows { StageRows (table_in table.now.words) table.now.count rep.now run.now st.old }
@@ -155,7 +155,7 @@ fn make(table: &Table, rep: &[u8; 129], run: &Run, p: usize, st: &mut Stage)
 }
 
 // Takes the stage past an LN of the cell x.
-fn hear(n: usize, rep: &[u8; 129], x: u8, st: &mut Stage)
+fn hear(n: usize, rep: &Row, x: u8, st: &mut Stage)
     requires class_row { ClassRow n rep.now }
     requires mark_row { MarkRow rep.now st.old.seen }
     requires mark_row_2 { MarkRow rep.now st.old.grant.seen }
@@ -170,7 +170,7 @@ fn hear(n: usize, rep: &[u8; 129], x: u8, st: &mut Stage)
 }
 
 // Takes the stage past the event at p.
-fn step(table: &Table, rep: &[u8; 129], run: &Run, p: usize, st: &mut Stage)
+fn step(table: &Table, rep: &Row, run: &Run, p: usize, st: &mut Stage)
     requires solved { Solved table.now.count (table_in table.now.words) rep.now }
     requires run_words { RunWords table.now.count run.now (p + 1) }
     requires stage_rows { StageRows (table_in table.now.words) table.now.count rep.now run.now st.old }
@@ -184,7 +184,7 @@ fn step(table: &Table, rep: &[u8; 129], run: &Run, p: usize, st: &mut Stage)
 }
 
 // The stage before the first event: nothing is learnt, the marks of his own name are granted, and nothing is to be tried.
-fn first_stage(own: [u8; 129]) -> Stage
+fn first_stage(own: Row) -> Stage
     ensures { FirstStage own result }
 {
     let blank = [0; 129];
@@ -204,13 +204,7 @@ fn first_stage(own: [u8; 129]) -> Stage
 }
 
 // The plan of a step; none, if everything that is to be made is built. Positions with dead ends before are taken sooner; a plan with one pair at most is good enough to look no further.
-pub fn plan(
-    table: &Table,
-    rep: &[u8; 129],
-    run: &Run,
-    count: usize,
-    dead: &[u16; 128],
-) -> Option<Choice>
+pub fn plan(table: &Table, rep: &Row, run: &Run, count: usize, dead: &[u16; 128]) -> Option<Choice>
     requires solved { Solved table.now.count (table_in table.now.words) rep.now }
     requires run_words { RunWords table.now.count run.now count }
     ensures { Plans (table_in table.now.words) (run_in count run.now) rep.now result }

@@ -14,18 +14,18 @@ use super::plan::plan;
 use cells::{Run, Table};
 use classes::clash::clash;
 use classes::upward::raise;
-use classes::{start, unify};
+use classes::{Row, start, unify};
 use granting::Place;
 
 // The classes that a pair gives, and the place after it, where the next pairs begin.
 #[derive(Clone, Copy, Debug, PartialEq, Eq)]
 struct Child {
-    pub rep: [u8; 129],
+    pub rep: Row,
     pub after: Place,
 }
 
 // The classes with those of x and y in one, closed upwards, if messages of the cells allow it.
-fn joined(table: &Table, rep: &[u8; 129], x: u8, y: u8) -> Option<[u8; 129]>
+fn joined(table: &Table, rep: &Row, x: u8, y: u8) -> Option<Row>
     requires kept { Kept table.now.count (table_in table.now.words) rep.now }
     requires x_lt_n { (x < table.now.count) × (y < table.now.count) }
     ensures { Unifies table.now.count (table_in table.now.words) rep.now x y result }
@@ -38,13 +38,7 @@ fn joined(table: &Table, rep: &[u8; 129], x: u8, y: u8) -> Option<[u8; 129]>
 }
 
 // The classes of the next pair from the place `from` on that can be made equal.
-fn next_child(
-    table: &Table,
-    rep: &[u8; 129],
-    want: &[u8; 129],
-    bare: &[u8; 129],
-    from: Place,
-) -> Option<Child>
+fn next_child(table: &Table, rep: &Row, want: &Row, bare: &Row, from: Place) -> Option<Child>
     requires kept { Kept table.now.count (table_in table.now.words) rep.now }
     requires d_bound { from.d ≤ 128 }
     ensures { ChildOf (table_in table.now.words) table.now.count rep.now want.now bare.now (place from.c from.d) result }
@@ -70,13 +64,7 @@ fn count_dead(dead: &mut [u16; 128], at: usize, pairs: u8) {
 }
 
 // Classes that right values satisfy, found from the classes rep, or none if no right values satisfy these. How many dead ends the positions had guides the choice of a step.
-fn search(
-    table: &Table,
-    run: &Run,
-    count: usize,
-    dead: &mut [u16; 128],
-    rep: [u8; 129],
-) -> Option<[u8; 129]>
+fn search(table: &Table, run: &Run, count: usize, dead: &mut [u16; 128], rep: Row) -> Option<Row>
     requires run_words { RunWords table.now.count run.now count }
     requires well_formed { WellFormed (table_in table.now.words) (run_in count run.now) }
     requires solved { Solved table.now.count (table_in table.now.words) rep }

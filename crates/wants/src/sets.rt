@@ -9,16 +9,11 @@ ghost use Rattle.wants.specs.Sets.{NeedRow, HeldRow, OverRow, WantedRow};
 use super::spread::{lowered, raised};
 use super::starts::{due, free_seen, keys, picked};
 use cells::{Run, Table, aim_of, event_at};
+use classes::Row;
 use knowledge::{Marks, cell, learn};
 
 // The marks of `start`, the keys that are not built of the seals that are seen, and of such cells the parts that are not built.
-pub fn needed(
-    table: &Table,
-    rep: &[u8; 129],
-    seen: &[u8; 129],
-    built: &[u8; 129],
-    start: [u8; 129],
-) -> [u8; 129]
+pub fn needed(table: &Table, rep: &Row, seen: &Row, built: &Row, start: Row) -> Row
     requires class_row { ClassRow table.now.count rep.now }
     requires mark_row { MarkRow rep.now built.now }
     requires mark_row_2 { MarkRow rep.now start }
@@ -30,7 +25,7 @@ pub fn needed(
 }
 
 // The cells that hold a free class that is seen.
-pub fn holds(table: &Table, rep: &[u8; 129], seen: &[u8; 129]) -> [u8; 129]
+pub fn holds(table: &Table, rep: &Row, seen: &Row) -> Row
     requires class_row { ClassRow table.now.count rep.now }
     requires mark_row { MarkRow rep.now seen.now }
     ensures { HeldRow (table_in table.now.words) rep.now seen.now result }
@@ -39,7 +34,7 @@ pub fn holds(table: &Table, rep: &[u8; 129], seen: &[u8; 129]) -> [u8; 129]
 }
 
 // The cells that are to be made before p, and their parts, as far as they hold a free class that is seen.
-pub fn over(table: &Table, rep: &[u8; 129], hold: &[u8; 129], run: &Run, p: usize) -> [u8; 129]
+pub fn over(table: &Table, rep: &Row, hold: &Row, run: &Run, p: usize) -> Row
     requires class_row { ClassRow table.now.count rep.now }
     requires run_words { RunWords table.now.count run.now p }
     ensures { OverRow (table_in table.now.words) rep.now hold.now run.now p result }
@@ -50,14 +45,14 @@ pub fn over(table: &Table, rep: &[u8; 129], hold: &[u8; 129], run: &Run, p: usiz
 }
 
 // The marks of both rows.
-fn joint(a: [u8; 129], b: [u8; 129]) -> [u8; 129]
+fn joint(a: Row, b: Row) -> Row
     ensures { Joint a b result 129 }
 {
     picked(129, a, |c| (b[c] == 1).then_some(c))
 }
 
 // The cells that may have to be made equal to a bare one, at the MK at p, by the marks of what is seen and built.
-pub fn wanted(table: &Table, rep: &[u8; 129], o: Marks, run: &Run, p: usize) -> [u8; 129]
+pub fn wanted(table: &Table, rep: &Row, o: Marks, run: &Run, p: usize) -> Row
     requires class_row { ClassRow table.now.count rep.now }
     requires mark_row { MarkRow rep.now o.seen }
     requires mark_row_2 { MarkRow rep.now o.built }

@@ -7,10 +7,10 @@ ghost use Rattle.wants.specs.Spread.{Reaches, Lowering, Lowered, Raises, Raising
 
 use super::starts::ends;
 use cells::Table;
-use classes::class_of;
+use classes::{Row, class_of};
 
 // Is the class d, which has the byte `flag` in the row `only`, to be marked as part of c?
-fn reaches(marks: &[u8; 129], only: &[u8; 129], flag: u8, c: usize, d: usize) -> bool
+fn reaches(marks: &Row, only: &Row, flag: u8, c: usize, d: usize) -> bool
     requires c_bound { c ≤ 128 }
     requires d_bound { d ≤ 128 }
     ensures { Decides result (Reaches marks.now only.now flag c d) }
@@ -19,13 +19,7 @@ fn reaches(marks: &[u8; 129], only: &[u8; 129], flag: u8, c: usize, d: usize) ->
 }
 
 // One sweep downwards: the parts of marked cells are marked, as far as they have `flag` in `only`. Says whether a mark is new.
-fn lower_once(
-    table: &Table,
-    rep: &[u8; 129],
-    only: &[u8; 129],
-    flag: u8,
-    marks: &mut [u8; 129],
-) -> bool
+fn lower_once(table: &Table, rep: &Row, only: &Row, flag: u8, marks: &mut Row) -> bool
     requires class_row { ClassRow table.now.count rep.now }
     requires mark_row { MarkRow rep.now marks.old }
     ensures { Lowering (table_in table.now.words) rep.now only.now flag marks.old marks.new result table.now.count 0 }
@@ -50,13 +44,7 @@ fn lower_once(
 }
 
 // The marks with the parts of marked cells, as far as they have `flag` in `only`.
-pub fn lowered(
-    table: &Table,
-    rep: &[u8; 129],
-    only: &[u8; 129],
-    flag: u8,
-    start: [u8; 129],
-) -> [u8; 129]
+pub fn lowered(table: &Table, rep: &Row, only: &Row, flag: u8, start: Row) -> Row
     requires class_row { ClassRow table.now.count rep.now }
     requires mark_row { MarkRow rep.now start }
     ensures { Lowered (table_in table.now.words) rep.now only.now flag start result }
@@ -67,7 +55,7 @@ pub fn lowered(
 }
 
 // Is c to be marked, as a cell with a marked part?
-fn raises(table: &Table, rep: &[u8; 129], marks: &[u8; 129], c: usize) -> bool
+fn raises(table: &Table, rep: &Row, marks: &Row, c: usize) -> bool
     requires class_row { ClassRow table.now.count rep.now }
     requires c_lt_n { c < table.now.count }
     ensures { Decides result (Raises (table_in table.now.words) rep.now marks.now c) }
@@ -80,7 +68,7 @@ fn raises(table: &Table, rep: &[u8; 129], marks: &[u8; 129], c: usize) -> bool
 }
 
 // One sweep upwards: cells with a marked part are marked. Says whether a mark is new.
-fn raise_once(table: &Table, rep: &[u8; 129], marks: &mut [u8; 129]) -> bool
+fn raise_once(table: &Table, rep: &Row, marks: &mut Row) -> bool
     requires class_row { ClassRow table.now.count rep.now }
     requires mark_row { MarkRow rep.now marks.old }
     ensures { Raising (table_in table.now.words) rep.now marks.old marks.new result table.now.count }
@@ -97,7 +85,7 @@ fn raise_once(table: &Table, rep: &[u8; 129], marks: &mut [u8; 129]) -> bool
 }
 
 // The marks with the cells that hold a marked one.
-pub fn raised(table: &Table, rep: &[u8; 129], start: [u8; 129]) -> [u8; 129]
+pub fn raised(table: &Table, rep: &Row, start: Row) -> Row
     requires class_row { ClassRow table.now.count rep.now }
     requires mark_row { MarkRow rep.now start }
     ensures { Raised (table_in table.now.words) rep.now start result }

@@ -10,11 +10,11 @@ ghost use Rattle.wants.specs.Starts.{Picks, EndsAt, BareAt, BareTo, KeyTold, Key
 use cells::{
     Event, Opening, Run, Table, Words, cell_at, cell_within, event_at, is_variable, kin_at, opens,
 };
-use classes::class_of;
+use classes::{Row, class_of};
 use knowledge::{Ends, cell, part_classes};
 
 // The marks of `start`, and of what is picked at the numbers below n.
-pub fn picked<F: Fn(usize) -> Option<usize>>(n: usize, start: [u8; 129], pick: F) -> [u8; 129]
+pub fn picked<F: Fn(usize) -> Option<usize>>(n: usize, start: Row, pick: F) -> Row
     requires callable { (c : ℕ) → c < n → F.pre pick c }
     requires low { (c t : ℕ) → c < n → F.post pick c (Some t) → t ≤ 128 }
     ensures { Picks (F.post pick) start result n }
@@ -29,7 +29,7 @@ pub fn picked<F: Fn(usize) -> Option<usize>>(n: usize, start: [u8; 129], pick: F
 }
 
 // The classes of the parts of c.
-pub fn ends(table: &Table, rep: &[u8; 129], c: usize) -> Ends
+pub fn ends(table: &Table, rep: &Row, c: usize) -> Ends
     requires class_row { ClassRow table.now.count rep.now }
     requires c_lt_n { c < table.now.count }
     ensures { EndsAt (table_in table.now.words) rep.now c result.left result.right }
@@ -38,7 +38,7 @@ pub fn ends(table: &Table, rep: &[u8; 129], c: usize) -> Ends
 }
 
 // Is c bare?
-fn is_bare(table: &Table, rep: &[u8; 129], seen: &[u8; 129], built: &[u8; 129], c: usize) -> bool
+fn is_bare(table: &Table, rep: &Row, seen: &Row, built: &Row, c: usize) -> bool
     requires class_row { ClassRow table.now.count rep.now }
     requires c_lt_n { c < table.now.count }
     ensures { Decides result (BareAt (table_in table.now.words) rep.now seen.now built.now c) }
@@ -51,7 +51,7 @@ fn is_bare(table: &Table, rep: &[u8; 129], seen: &[u8; 129], built: &[u8; 129], 
 }
 
 // The bare cells.
-pub fn bares(table: &Table, rep: &[u8; 129], seen: &[u8; 129], built: &[u8; 129]) -> [u8; 129]
+pub fn bares(table: &Table, rep: &Row, seen: &Row, built: &Row) -> Row
     requires class_row { ClassRow table.now.count rep.now }
     ensures { BareTo (table_in table.now.words) rep.now seen.now built.now result table.now.count }
 {
@@ -62,13 +62,7 @@ pub fn bares(table: &Table, rep: &[u8; 129], seen: &[u8; 129], built: &[u8; 129]
 }
 
 // The class of the key of c, if c is a seal that is seen and its key is not built.
-fn key_at(
-    table: &Table,
-    rep: &[u8; 129],
-    seen: &[u8; 129],
-    built: &[u8; 129],
-    c: usize,
-) -> Option<usize>
+fn key_at(table: &Table, rep: &Row, seen: &Row, built: &Row, c: usize) -> Option<usize>
     requires class_row { ClassRow table.now.count rep.now }
     requires c_lt_n { c < table.now.count }
     ensures { KeyTold (table_in table.now.words) rep.now seen.now built.now c result }
@@ -86,13 +80,7 @@ fn key_at(
 }
 
 // Marks the classes of the keys that are not built, of the seals that are seen.
-pub fn keys(
-    table: &Table,
-    rep: &[u8; 129],
-    seen: &[u8; 129],
-    built: &[u8; 129],
-    start: [u8; 129],
-) -> [u8; 129]
+pub fn keys(table: &Table, rep: &Row, seen: &Row, built: &Row, start: Row) -> Row
     requires class_row { ClassRow table.now.count rep.now }
     requires mark_row { MarkRow rep.now start }
     ensures { Keyed (table_in table.now.words) rep.now seen.now built.now start result table.now.count }
@@ -102,7 +90,7 @@ pub fn keys(
 }
 
 // Is c a free cell that is seen?
-pub fn free_at(words: &Words, seen: &[u8; 129], c: usize) -> bool
+pub fn free_at(words: &Words, seen: &Row, c: usize) -> bool
     requires { c < 128 }
     ensures { Decides result (FreeAt (table_in words.now) seen.now c) }
 {
@@ -110,7 +98,7 @@ pub fn free_at(words: &Words, seen: &[u8; 129], c: usize) -> bool
 }
 
 // The free cells that are seen.
-pub fn free_seen(table: &Table, rep: &[u8; 129], seen: &[u8; 129]) -> [u8; 129]
+pub fn free_seen(table: &Table, rep: &Row, seen: &Row) -> Row
     requires n_bound { table.now.count ≤ 128 }
     requires mark_row { MarkRow rep.now seen.now }
     ensures { FreeSeen (table_in table.now.words) rep.now seen.now result table.now.count }
@@ -120,7 +108,7 @@ pub fn free_seen(table: &Table, rep: &[u8; 129], seen: &[u8; 129]) -> [u8; 129]
 }
 
 // The class of the cell of an event, if it is to be made and marked in `hold`.
-fn due_at(n: usize, rep: &[u8; 129], hold: &[u8; 129], e: Event) -> Option<usize>
+fn due_at(n: usize, rep: &Row, hold: &Row, e: Event) -> Option<usize>
     requires class_row { ClassRow n rep.now }
     requires e_bound { aim (as_event e) ≤ 128 }
     ensures { DueTold rep.now hold.now (as_event e) result }
@@ -135,7 +123,7 @@ fn due_at(n: usize, rep: &[u8; 129], hold: &[u8; 129], e: Event) -> Option<usize
 }
 
 // The classes of the cells that are to be made before p, as far as they are marked in `hold`.
-pub fn due(n: usize, rep: &[u8; 129], hold: &[u8; 129], run: &Run, p: usize) -> [u8; 129]
+pub fn due(n: usize, rep: &Row, hold: &Row, run: &Run, p: usize) -> Row
     requires n_bound { n ≤ 128 }
     requires class_row { ClassRow n rep.now }
     requires run_words { RunWords n run.now p }
