@@ -1,6 +1,7 @@
 // A question for each letter. `head` is the case from its letter to the file's length, `file` the file, or the typed text;
 // a reply is laid into `out`, which is longer than any room that a case asks for.
 use crate::print::{print, print_hex, print_list, print_marks, print_number, print_refused};
+use refusals::Refusal;
 use std::io;
 use std::io::Write;
 
@@ -56,30 +57,23 @@ fn ask_marks<W: Write>(to: &mut W, room: usize, file: &[u8], out: &mut [u8]) -> 
     }
 }
 
-// r: the reduced file
-fn ask_reduced<W: Write>(to: &mut W, room: usize, file: &[u8], out: &mut [u8]) -> io::Result<()> {
+// r and t: the bytes that a question writes, behind their name
+fn ask_bytes<W: Write, F: FnOnce(&mut [u8]) -> Result<usize, Refusal>>(
+    to: &mut W,
+    name: &[u8],
+    room: usize,
+    out: &mut [u8],
+    question: F,
+) -> io::Result<()>
+    requires { (room : _) → F.pre question room }
+{
     if room > out.len() {
         return Ok(());
     }
-    match reducing::reduce(file, &mut out[..room]) {
+    match question(&mut out[..room]) {
         Err(refusal) => print_refused(to, refusal),
         Ok(n) => {
-            print(to, b"reduced ")?;
-            print_hex(to, out, n)?;
-            print(to, b"\n")
-        }
-    }
-}
-
-// t: the case file of a typed text
-fn ask_text<W: Write>(to: &mut W, room: usize, text: &[u8], out: &mut [u8]) -> io::Result<()> {
-    if room > out.len() {
-        return Ok(());
-    }
-    match typing::read_text(text, &mut out[..room]) {
-        Err(refusal) => print_refused(to, refusal),
-        Ok(n) => {
-            print(to, b"typed ")?;
+            print(to, name)?;
             print_hex(to, out, n)?;
             print(to, b"\n")
         }
@@ -159,9 +153,21 @@ pub fn ask<W: Write>(to: &mut W, head: &[u8], file: &[u8]) -> io::Result<()> {
     match byte(head, 0) {
         b'f' => ask_file(to, file),
         b'm' => ask_marks(to, room, file, &mut out),
-        b'r' => ask_reduced(to, room, file, &mut out),
+        b'r' => ask_bytes(
+            to,
+            b"reduced ",
+            room,
+            &mut out,
+            |out| reducing::reduce(file, out),
+        ),
         b'y' => ask_run(to, room, file, &mut out),
-        b't' => ask_text(to, room, file, &mut out),
+        b't' => ask_bytes(
+            to,
+            b"typed ",
+            room,
+            &mut out,
+            |out| typing::read_text(file, out),
+        ),
         b'e' => ask_equated(
             to,
             byte(head, 1),
