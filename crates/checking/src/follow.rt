@@ -30,6 +30,7 @@ fn gather(table: &Table, list: &[u8]) -> Row
     let n = table.count;
     let mut rep = classes::start(table);
     for c in 0..n {
+        // Bound first: the borrow checker covers no call whose result is laid at once in the array that it was handed.
         let bound = bind_entry(table, rep, c as u8, list[c]);
         rep = bound;
     }

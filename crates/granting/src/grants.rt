@@ -58,7 +58,6 @@ fn closed(table: &Table, rep: &Row, run: &Run, p: usize, o: Marks) -> Marks
 
 // Is no free class seen?
 fn is_calm(table: &Table, seen: &Row) -> bool
-    requires { table.now.count ≤ 128 }
     ensures { result ≡ true → (c : ℕ) → c < table.now.count → FreeAt (table_in table.now.words) seen.now c → ⊥ }
 {
     let n = table.count;

@@ -28,7 +28,7 @@ pub fn learnt_before(n: usize, rep: &Row, run: &Run, count: usize, p: usize) -> 
         match event_at(run, q) {
             Event::Make(_) => {}
             Event::Learn(x) => {
-                // Bound first: the proof covers no call whose result is laid in an array at once.
+                // Bound first: the borrow checker covers no call whose result is laid at once in the array that it was handed.
                 let more = super::learn(n, rep, seen, super::cell(x));
                 seen = more;
             }

@@ -16,7 +16,7 @@ pub fn put_text(text: &[u8], at: usize, out: &mut [u8]) -> usize
     end
 }
 
-// Puts a digit.
+// Puts a digit: by hand, as the promises say each byte and the wrong version `digits_swapped` is about it.
 fn put_digit(n: usize, at: usize, out: &mut [u8]) -> usize
     requires { (n < 10) × (at < length out.old) }
     ensures { Put ((48 + n) ∷ []) out.old at out.new result }

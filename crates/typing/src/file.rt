@@ -8,7 +8,7 @@ ghost use Rattle.typing.specs.File.{up_to, events_in};
 use cells::{Run, Words, cell_at, event_at};
 use records::{put_cell, put_event, put_mark, size_of};
 
-// How many bytes the records of so many cells take.
+// How many bytes the records of so many cells take. The cells so far are no table, as a variable's word has its number added: so words, and how many of them.
 pub fn cells_size(table: &Words, n: usize) -> usize
     requires { n ≤ 128 }
     ensures { (result ≡ length (joined cell_bytes (up_to (table_in table.now) n))) × (result ≤ 4 * n) }
@@ -20,7 +20,7 @@ pub fn cells_size(table: &Words, n: usize) -> usize
     size
 }
 
-// The records of the cells, from the front of `out`.
+// The records of the cells, from the front of `out`: words and how many of them, as above.
 pub fn put_cells(out: &mut [u8], table: &Words, n: usize)
     requires { (n ≤ 128) × (length (joined cell_bytes (up_to (table_in table.now) n)) ≤ length out.old) }
     ensures { out.new ≡ sets out.old 0 (joined cell_bytes (up_to (table_in table.now) n)) }

@@ -18,7 +18,7 @@ pub fn print_refused<W: Write>(to: &mut W, refusal: Refusal) -> io::Result<()> {
     write!(to, "{refusal}\n")
 }
 
-// The first n bytes, each as two digits.
+// The first n bytes, each as two digits. One function for each format, since a format is no value.
 pub fn print_hex<W: Write>(to: &mut W, bytes: &[u8], n: usize) -> io::Result<()> {
     for b in bytes.iter().take(n) {
         write!(to, "{b:02x}")?;

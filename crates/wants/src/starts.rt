@@ -99,7 +99,6 @@ pub fn free_at(words: &Words, seen: &Row, c: usize) -> bool
 
 // The free cells that are seen.
 pub fn free_seen(table: &Table, rep: &Row, seen: &Row) -> Row
-    requires n_bound { table.now.count ≤ 128 }
     requires mark_row { MarkRow rep.now seen.now }
     ensures { FreeSeen (table_in table.now.words) rep.now seen.now result table.now.count }
 {
