@@ -6,8 +6,9 @@ use Prim.Native.Nat.{ℕ}
 use lib.ListN.{length}
 use Rattle.std.specs.Prelude.{Some, None, Result, Ok, Err}
 use Rattle.refusals.specs.declared.Refusal.{Refusal}
-use Rattle.refusals.specs.Numbers.{number_of}
-use Rattle.refusals.specs.Refused.{refusal, Refused}
+use Rattle.refusals.specs.Numbers.{number_of, fault_of}
+use Rattle.refusals.specs.Refused.{Refused}
+use Rattle.refusals.proofs.Numbers.{fault_numbered}
 use Rattle.model.specs.Case.{File, table_of, run_of}
 use Rattle.model.specs.Format.{Reading, read_file, first_variable}
 use Rattle.model.specs.Stored.{table_in, run_in}
@@ -17,7 +18,6 @@ use Rattle.theory.specs.Cells.{TableWords, RunWords}
 use Rattle.theory.proofs.Rows.{accepted_table, accepted_run}
 use Rattle.casefile.specs.declared.case.Case.{Case}
 use Rattle.casefile.specs.Case.{found_at, Holds, Reads}
-use Rattle.casefile.proofs.FaultLaws.{file_numbered}
 
 -- The case is what is read of the accepted file f.
 pub record CaseFile (file : List ℕ) (case : Case) : Type 0 where
@@ -34,23 +34,22 @@ module _ (file : List ℕ) (r : Result Case Refusal) (reply : Reads (read_file f
     where
       go : (x : Reading) → read_file file ≡ x → read_file file ≡ Reading.refused (number_of e.fault) e.place
       go (Reading.refused n p) h =
-          let i : refusal n p ≡ e = cc (replied h) in
-          h ∙ ap₂ Reading.refused (sym (file_numbered file h) ∙ ap (λ (u : Refusal). number_of u.fault) i) (ap (λ (u : Refusal). u.place) i)
+          let (number, place) = subst (Reads (Reading.refused n p)) v (replied h) in
+          h ∙ ap₂ Reading.refused (sym number) (sym place)
       go (Reading.accepted f) h = absurd (subst (Reads (Reading.accepted f)) v (replied h))
 
   pub case_accepted : (case : Case) → r ≡ Ok case → CaseFile file case
   case_accepted case v = go (read_file file) refl
     where
       go : (x : Reading) → read_file file ≡ x → CaseFile file case
-      go (Reading.refused n p) h = clash (cc (replied h))
+      go (Reading.refused n p) h = absurd (subst (Reads (Reading.refused n p)) v (replied h))
       go (Reading.accepted f) h = record { f = f; read = h; holds = subst (Reads (Reading.accepted f)) v (replied h) }
 
 -- A reply of any sort that hands on the refusal is the refusal of the reading.
 pub case_told : {A : Type 0} (file : List ℕ) (e : Refusal) → Reads (read_file file) (Err e) → (n p : ℕ) → read_file file ≡ Reading.refused n p → ◌≡◌ {A = Result A Refusal} (Err e) (Refused n p)
 case_told file e v n p h =
-    let t : ◌≡◌ {A = Result Case Refusal} (Err e) (Refused n p) = subst (λ x. Reads x (Err e)) h v in
-    let i : e ≡ refusal n p = cc in
-    ap Err i
+    let (number, place) = subst (λ x. Reads x (Err e)) h v in
+    ap₂ (λ fault place. Err (record { fault = fault; place = place })) (sym (fault_numbered e.fault) ∙ ap fault_of number) place
 
 found_some : (o : Option ℕ) (at : ℕ) → found_at o ≡ Some at → o ≡ some at
 found_some none at e = clash (cc)

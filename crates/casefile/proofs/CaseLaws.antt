@@ -1,5 +1,5 @@
 -- From the cell records and the event records to the reply.
-use mathlib.Core.Path.{◌≡◌, sym, ◌∙◌, ap, subst}
+use mathlib.Core.Path.{◌≡◌, refl, sym, ◌∙◌, ap, subst}
 use mathlib.Core.List.{List}
 use Prim.Native.Nat.{ℕ, ◌+◌, ◌-◌}
 use native.Mathlib.Omega.{arith}
@@ -15,7 +15,6 @@ use Rattle.casefile.specs.declared.Row.{Row}
 use Rattle.casefile.specs.declared.case.Case.{Case}
 use Rattle.refusals.specs.declared.Refusal.{Refusal}
 use Rattle.refusals.specs.Numbers.{number_of}
-use Rattle.refusals.proofs.Numbers.{fault_numbered}
 use Rattle.casefile.specs.Cells.{Cut, Begun}
 use Rattle.casefile.specs.Events.{read_as, EventsRead}
 use Rattle.casefile.specs.Case.{Reads, VariableFound}
@@ -23,7 +22,7 @@ use Rattle.casefile.proofs.VariableLaws.{variable_found}
 
 -- A refusal of the reading is that of the reply.
 pub refused_as : (file : List ℕ) (e : Refusal) → read_file file ≡ Reading.refused (number_of e.fault) e.place → Reads (read_file file) (Err e)
-refused_as file e h = subst (λ x. Reads x (Err e)) (sym h) (ap (λ f. Err (record { fault = f; place = e.place })) (sym (fault_numbered e.fault)))
+refused_as file e h = subst (λ x. Reads x (Err e)) (sym h) (refl, refl)
 
 module _ (file : List ℕ) (at : ℕ) (t : Table) (cut : Cut file at t) where
   -- The part of the file that begins where the cell records end.

@@ -5,7 +5,7 @@ use Rattle.model.specs.Case.{File, Table, VA}
 use Rattle.model.specs.Format.{Reading, first_variable}
 use Rattle.model.specs.Stored.{word_of, event_word, row}
 use Rattle.refusals.specs.declared.Refusal.{Refusal}
-use Rattle.refusals.specs.Refused.{Refused}
+use Rattle.refusals.specs.Numbers.{number_of}
 use Rattle.casefile.specs.declared.Row.{Row}
 use Rattle.casefile.specs.declared.case.Case.{Case}
 
@@ -33,9 +33,10 @@ pub record Holds (f : File) (case : Case) : Type 0 where
   pub run : case.run ≡ stored event_word f.events
   pub variable : case.variable ≡ found_at (first_variable f.cells)
 
--- The reply to a file that is read so.
+-- The reply to a file that is read so: a refusal is told with the reading's number and its place.
 abbrev pub Reads : Reading → Result Case Refusal → Type 0
-Reads (Reading.refused number place) r = r ≡ Refused number place
+Reads (Reading.refused number place) (Err e) = (number_of e.fault ≡ number) × (e.place ≡ place)
+Reads (Reading.refused number place) (Ok case) = ⊥
 Reads (Reading.accepted f) (Ok case) = Holds f case
 Reads (Reading.accepted f) (Err e) = ⊥
 

@@ -5,8 +5,8 @@ ghost use Rattle.theory.specs.Decides.{Decides};
 ghost use Rattle.cells.specs.Cells.{as_cell, as_event};
 ghost use Rattle.casefile.specs.Events.{event_step, event_says, PartsFit, PartsMarked, WithinMarked, LooseAt, LooseMarks, Loose, marks_after, AimFits, EventsRead};
 
-use super::Row;
 use super::record::{Front, Record};
+use super::{Row, store};
 use cells::{Cell, Event, Parts, Table};
 use refusals::{Fault, Refusal};
 
@@ -111,7 +111,7 @@ pub fn read_events(rest: &[u8], base: usize, table: &Table) -> Result<Row, Refus
     requires { base + length rest.now < 2 ^ 64 }
     ensures { EventsRead rest.now base table.now result }
 {
-    let mut run = Row::new();
+    let mut run = store::no_words();
     let mut made = [0; 128];
     let mut at: usize = 0;
     loop {
@@ -137,7 +137,7 @@ pub fn read_events(rest: &[u8], base: usize, table: &Table) -> Result<Row, Refus
                     });
                 }
                 mark_made(table, &mut made, event);
-                run.push(cells::event_word(event));
+                store::push(&mut run, cells::event_word(event));
                 at += 3;
             }
         }

@@ -4,23 +4,21 @@ ghost use Rattle.casefile.specs.Case.{no_words, with_word};
 
 use super::Row;
 
-impl Row {
-    // No words.
-    pub fn new() -> Row
-        ensures { result ≡ no_words }
-    {
-        Row {
-            words: [0; 128],
-            count: 0,
-        }
+// No words.
+pub fn no_words() -> Row
+    ensures { result ≡ no_words }
+{
+    Row {
+        words: [0; 128],
+        count: 0,
     }
+}
 
-    // One word more.
-    pub fn push(&mut self, word: u32)
-        requires { self.old.count < 128 }
-        ensures { self.new ≡ with_word self.old word }
-    {
-        self.words[self.count] = word;
-        self.count += 1;
-    }
+// One word more.
+pub fn push(row: &mut Row, word: u32)
+    requires { row.old.count < 128 }
+    ensures { row.new ≡ with_word row.old word }
+{
+    row.words[row.count] = word;
+    row.count += 1;
 }

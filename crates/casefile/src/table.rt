@@ -5,8 +5,8 @@ ghost use Rattle.model.specs.Format as format;
 ghost use Rattle.cells.specs.Cells.{as_cell};
 ghost use Rattle.casefile.specs.Cells.{cell_step, cell_says, CellsRead};
 
-use super::Row;
 use super::record::{Front, Record};
+use super::store;
 use cells::{Cell, Parts, Table};
 use refusals::{Fault, Refusal};
 
@@ -57,7 +57,7 @@ fn cell_step(file: &[u8], at: usize, n: usize) -> Result<Option<Cell>, Fault>
 pub fn read_cells(file: &[u8]) -> Result<Cells, Refusal>
     ensures { CellsRead file.now result }
 {
-    let mut row = Row::new();
+    let mut row = store::no_words();
     let mut at: usize = 0;
     loop {
         match cell_step(file, at, row.count) {
@@ -70,7 +70,7 @@ pub fn read_cells(file: &[u8]) -> Result<Cells, Refusal>
                 return Ok(Cells { table, at });
             }
             Ok(Some(c)) => {
-                row.push(cells::word_of(c));
+                store::push(&mut row, cells::word_of(c));
                 at += records::size_of(c);
             }
         }

@@ -8,8 +8,8 @@ use Rattle.casefile.proofs.rest.read_events.Goals as goal
 pub loop-fault-init : goal.loop-fault-init
 loop-fault-init c = (
   omega arith,
-  (let e = ap (λ w. w.count) c.new-run.ensures in omega arith),
-  λ file cells h. events_start c.args.rest.now c.args.base c.args.table.now file cells h _ c.new-run.ensures,
+  (let e = ap (λ w. w.count) c.no_words-run.ensures in omega arith),
+  λ file cells h. events_start c.args.rest.now c.args.base c.args.table.now file cells h _ c.no_words-run.ensures,
 )
 
 pub returns-in-Err : goal.returns-in-Err

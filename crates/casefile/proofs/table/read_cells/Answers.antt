@@ -4,7 +4,7 @@ use Rattle.casefile.proofs.CellLoop.{cells_start, cells_formed, cells_events, ce
 use Rattle.casefile.proofs.table.read_cells.Goals as goal
 
 pub loop-fault-init : goal.loop-fault-init
-loop-fault-init c = cells_start c.args.file.now _ c.new-row.ensures
+loop-fault-init c = cells_start c.args.file.now _ c.no_words-row.ensures
 
 pub returns-in-Err : goal.returns-in-Err
 returns-in-Err c = cells_refused c.args.file.now c.loop-fault.at c.loop-fault.row c.loop-fault.invariant _ c.in-Err.ensures
