@@ -35,7 +35,7 @@ fn put_refusal(refusal: Refusal, out: &mut [u8]) -> usize
 
 // Puts the line of counts at the front.
 fn put_counts(case: &Case, out: &mut [u8]) -> usize
-    requires { (case.now.table.count < 1000) × (case.now.run.count < 1000) × (1437 ≤ length out.old) }
+    requires { 1437 ≤ length out.old }
     ensures { Put (counts_line case.now.table.count case.now.run.count) out.old 0 out.new result × (result ≤ 21) }
 {
     let first = put_told(b"cells ", case.table.count, 0, out);
@@ -90,7 +90,7 @@ fn put_values(words: &Words, list: &[u8; 128], n: usize, at: usize, out: &mut [u
 
 // Puts the counts and "no".
 fn put_no(case: &Case, out: &mut [u8]) -> usize
-    requires { (case.now.table.count < 1000) × (case.now.run.count < 1000) × (1437 ≤ length out.old) }
+    requires { 1437 ≤ length out.old }
     ensures { Put (counts_line case.now.table.count case.now.run.count ++ no_line) out.old 0 out.new result }
 {
     let counted = put_counts(case, out);
@@ -99,7 +99,7 @@ fn put_no(case: &Case, out: &mut [u8]) -> usize
 
 // Puts the counts, "yes" and the values of a list.
 fn put_yes(case: &Case, list: &[u8; 128], out: &mut [u8]) -> usize
-    requires { (case.now.table.count ≤ 128) × (case.now.run.count < 1000) × (1437 ≤ length out.old) }
+    requires { 1437 ≤ length out.old }
     ensures { Put (counts_line case.now.table.count case.now.run.count ++ (yes_line ++ value_lines (table_in case.now.table.words) list.now case.now.table.count)) out.old 0 out.new result }
 {
     let counted = put_counts(case, out);
