@@ -22,7 +22,6 @@ def row(point, name, places):
 def line_of(text, at):
     return text.count("\n", 0, at) + 1
 FAULT = re.compile(r"^(Refused|Wrong|Failed|Deep|Clash|Faulty)$")
-NONE = re.compile(r"^(Nothing|Nowhere|Not|No|None|Unknown|Accepted|Unset)$")
 enums, flags, numbers, loops, hand, facts, lengths, switches, functions = [], [], [], [], [], [], [], [], []
 for f, s in files.items():
     for m in re.finditer(r"^(?:pub )?enum (\w+)[^{]*\{\n(.*?)^\}", s, re.M | re.S):
@@ -53,7 +52,7 @@ for f, s in files.items():
             body.append(k)
         if any(re.search(rf"\b{re.escape(w)}\b", m[2]) for w in re.findall(r"^\s*(\w+) [+-]= 1;", "\n".join(body), re.M)):
             loops.append(f"{f}:{i + 1} {l.strip()}")
-    for m in re.finditer(r"^( *)(?:pub )?(?:extern \"C\" )?fn (\w+)(.*?)^\1\{\n(.*?)^\1\}", s, re.M | re.S):
+    for m in re.finditer(r"^( *)(?:pub )?(?:extern \"C\" )?fn (\w+)((?:(?!^\1\}).)*?)(?:^\1\{| \{)\n(.*?)^\1\}", s, re.M | re.S):
         name, head, body = m[2], m[3], m[4]
         place = f"{f}:{line_of(s, m.start())} {name}"
         functions.append((place, body))
