@@ -1,11 +1,11 @@
 -- Cells taken apart and held against each other, by their kinds.
 use mathlib.Core.Path.{◌≡◌, refl, sym, ap, subst}
 use mathlib.Core.Logic.{◌⊎◌, inl, inr}
-use Prim.Native.Nat.{ℕ, ◌+◌, ◌*◌}
+use Prim.Native.Nat.{ℕ, zero, suc, ◌+◌, ◌*◌}
 use Rattle.model.specs.Message.{Two}
 use Rattle.model.specs.Case as case
 use Rattle.model.specs.Case.{AT, VA, TWO, PR, SE, AP, MK}
-use Rattle.model.specs.Stored.{word_of}
+use Rattle.model.specs.Stored.{cell_at, word_of}
 use Rattle.model.proofs.Read.{clash}
 use Rattle.theory.specs.Cells.{apps, Makes}
 use Rattle.theory.specs.Classes.{Alike, Likes}
@@ -21,6 +21,15 @@ use Rattle.cells.specs.declared.Opening.TheVariants as opening
 use Rattle.cells.specs.declared.Meeting.TheVariants as meeting
 
 -- ---- cells taken apart
+
+-- A kind that there is not shows his own name.
+pub no_cell : (k a b : ℕ) → (k ≡ 0 → ⊥) → (k ≡ 1 → ⊥) → (k ≡ 2 → ⊥) → (k ≡ 3 → ⊥) → (k ≡ 4 → ⊥) → AT 0 ≡ cell_at k a b
+no_cell zero a b n0 n1 n2 n3 n4 = absurd (n0 refl)
+no_cell (suc zero) a b n0 n1 n2 n3 n4 = absurd (n1 refl)
+no_cell (suc (suc zero)) a b n0 n1 n2 n3 n4 = absurd (n2 refl)
+no_cell (suc (suc (suc zero))) a b n0 n1 n2 n3 n4 = absurd (n3 refl)
+no_cell (suc (suc (suc (suc zero)))) a b n0 n1 n2 n3 n4 = absurd (n4 refl)
+no_cell (suc (suc (suc (suc (suc k))))) a b n0 n1 n2 n3 n4 = refl
 
 pub word_variable : {k : Cell} → k ≡ cell.Variable → 1 * 65536 + 0 * 256 + 0 ≡ word_of (as_cell k)
 word_variable e = rw e refl

@@ -14,6 +14,7 @@ use Rattle.model.specs.Message.{Message}
 use Rattle.model.specs.Case.{Cell, AT, VA, Table, Reads, Part, in_arg, in_left, in_right}
 use Rattle.model.specs.Stored.{table_in}
 use Rattle.model.proofs.Finite.{eq?}
+use Rattle.model.proofs.Read.{clash}
 use Rattle.theory.specs.Cells.{TableWords, class_at}
 use Rattle.theory.specs.Classes.{Alike, Closed, Sat}
 use Rattle.theory.proofs.Classes.{forced}
@@ -46,6 +47,13 @@ module _ {n : ℕ} {words rep : List ℕ} (w : TableWords n words) (K : Kept n (
   told_asks (Parts x y) (f, ne) =
       let (p, q) = facing_parts f in
       ((rows_part w c x p).1, (rows_part w (class_at rep c) y q).1, ne, λ m mr sat. facing_same f (force m mr sat))
+
+-- An answer that is not Parts: there is a clash, or nothing is asked for.
+pub tag_none : (n : ℕ) (T : Table) (rep : List ℕ) (c : ℕ) (d : Diff) → ((x y : ℕ) → d ≡ Parts x y → ⊥) → Asks n T rep c d →
+    (d ≡ Clash → Unmet T (class_at rep)) × (d ≡ Same → Shut T (class_at rep) c)
+tag_none n T rep c Same h a = (λ i. clash (cc), λ _. a)
+tag_none n T rep c Clash h a = (λ _. a, λ i. clash (cc))
+tag_none n T rep c (Parts x y) h a = absurd (h x y refl)
 
 -- ---- joins that keep P
 

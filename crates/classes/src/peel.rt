@@ -40,6 +40,7 @@ fn fresh(words: &Words, rep: &Row, done: &Row, c: u8) -> bool
 }
 
 // Marks each cell whose class has no part that is not marked, once over the cells and the first one beyond them; says whether there were any.
+#[inline(never)]
 fn peel(table: &Table, rep: &Row, done: &mut Row) -> bool
     requires peeled { Peeled (class_table (table_in table.now.words) rep.now) done.old }
     ensures { Peels (class_table (table_in table.now.words) rep.now) done.old (table.now.count + 1) done.new result }

@@ -35,7 +35,8 @@ fn first_same(words: &[u32; 129], c: u8) -> u8
     ensures { Earliest words.now c result }
 {
     let w = words[usize::from(c)];
-    (0..c).find(|d| words[usize::from(*d)] == w).unwrap_or(c)
+    let at = words[..usize::from(c)].iter().position(|x| *x == w);
+    at.map_or(c, |d| d as u8)
 }
 
 // The lowest cell that is alike c, where the entries and the class words below c are right; the class word of c is laid beside them. The cells beyond the table's all show

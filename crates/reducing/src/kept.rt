@@ -37,7 +37,8 @@ fn is_bare(c: usize, n: usize, k: Cell, rep: &Row, built: &Row) -> bool
     requires { ClassRow n rep.now × LowParts (as_cell k) × (c < 128) }
     ensures { Decides result (IsBare rep.now built.now c (as_cell k)) }
 {
-    class_of(rep, c) == c && built[c] == 1 && !is_idle(n, k, rep, built)
+    let z = class_of(rep, c);
+    z == c && built[z] == 1 && !is_idle(n, k, rep, built)
 }
 
 // The marks on the bare cells except name 0, one of each class.

@@ -34,6 +34,9 @@ module _ (T : Table) (n : ℕ) (ev : Run) (rep want bare : List ℕ) where
   abbrev pub Tried : ℕ → Type 0
   Tried to = (c d : ℕ) → c < n → d < n → place c d < to → Pairs T rep want bare c d → NoneWith T ev (class_at rep) c d
 
+  pub tried_none : Tried (place 0 0)
+  tried_none c d h g l = absurd (omega arith)
+
   module _ (c d : ℕ) (old : Tried (place c d)) where
     pub tried_next : {h : Child} → ChildOf T n rep want bare (place c d) (Some h) → None T ev (class_at h.rep) → Tried (place h.after.c h.after.d)
     tried_next w no_one i j hi hj l p = elim (dec_lt (place i j) (place c d)) [
@@ -74,6 +77,9 @@ module _ {n : ℕ} {words rep : List ℕ} (w : TableWords n words) (ev : Run) (s
   abbrev T : Table
   T = table_in words
 
+  pub searched_yes : Plans T ev rep option.None → Searched T n ev rep (Some rep)
+  searched_yes p = record { solved = s; ready = p.ready; none = tt }
+
   pub searched_no : WellFormed T ev → (pl : Choice) → Plans T ev rep (Some pl) →
       ((i j : ℕ) → i < n → j < n → Pairs T rep pl.trial.want pl.trial.bare i j → NoneWith T ev (class_at rep) i j) → Searched T n ev rep option.None
   searched_no wf pl p all = record {
@@ -83,6 +89,9 @@ module _ {n : ℕ} {words rep : List ℕ} (w : TableWords n words) (ev : Run) (s
         p.tries wf
         (λ c d ec ed x z k a. tried_pairs T n ev rep pl.trial.want pl.trial.bare all c d (kin_below w c d k).0 (kin_below w c d k).1 x z k (λ i. a (sym ec ∙ (i ∙ ed))));
   }
+
+pub searched_child : (T : Table) (n : ℕ) (ev : Run) (rep next : List ℕ) {out : List ℕ} → Searched T n ev next (Some out) → Searched T n ev rep (Some out)
+searched_child T n ev rep next x = record { solved = x.solved; ready = x.ready; none = tt }
 
 -- ---- the reply
 

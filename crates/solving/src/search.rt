@@ -92,6 +92,8 @@ pub fn solve(table: &Table, run: &Run, count: usize) -> Option<[u8; 128]>
 {
     let rep = start(table);
     let mut dead = [0; 128];
-    let found = search(table, run, count, &mut dead, rep)?;
-    Some(value_list(table, &found))
+    match search(table, run, count, &mut dead, rep) {
+        Some(found) => Some(value_list(table, &found)),
+        None => None,
+    }
 }

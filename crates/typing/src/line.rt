@@ -142,6 +142,7 @@ fn take(
 }
 
 // Takes the line at `at`, behind those so far, and says the position behind it.
+#[tactic(auto, using(crate::proofs::TakeLaws::read_misread, crate::proofs::TakeLaws::read_taken))]
 pub fn read_line(text: &[u8], at: usize, lines: &mut Lines) -> Result<usize, Refusal>
     requires { at < length text.now }
     ensures { LineRead text.now at lines.old result lines.new }

@@ -62,14 +62,14 @@ module _ {T : Table} {rep seens builts : List ℕ} {c : ℕ} where
   bare_unkin n w = n (bare_kin (T c) w.part w.shut)
 
   module _ {a b : ℕ} (e : EndsAt T rep c a b) (k : Kin (T c) (T c)) where
-    bare_made : On builts a → On builts b → BareAt T rep seens builts c → ⊥
+    pub bare_made : On builts a → On builts b → BareAt T rep seens builts c → ⊥
     bare_made x y w =
         let (i, j, m) = kin_makes k in
         let (l, r) = makes_ends c m in
         w.lacks i j m (subst (λ d. On builts (class_at rep d)) l (subst (On builts) e.left x)) (subst (λ d. On builts (class_at rep d)) r (subst (On builts) e.right y))
 
     -- Seen and without one of its parts it is bare.
-    bare_here : On seens c → (On builts a → On builts b → ⊥) → BareAt T rep seens builts c
+    pub bare_here : On seens c → (On builts a → On builts b → ⊥) → BareAt T rep seens builts c
     bare_here o ne =
         record {
           whole = o;
@@ -134,13 +134,13 @@ module _ {T : Table} {rep seens builts : List ℕ} {c : ℕ} where
   key_unsealed n = KeyTold.nothing (λ j w. let (b, e) = w.sealed in n b j e)
 
   module _ {b j t : ℕ} (e : T c ≡ SE b j) (z : t ≡ class_at rep j) where
-    key_built : On builts t → KeyTold T rep seens builts c None
+    pub key_built : On builts t → KeyTold T rep seens builts c None
     key_built u = KeyTold.nothing (λ i w.
         let (d, q) = w.sealed in
         let same : j ≡ i = cc in
         w.lacks (subst (On builts) (z ∙ ap (class_at rep) same) u))
 
-    key_new : KeyTold T rep seens builts c (Some t)
+    pub key_new : KeyTold T rep seens builts c (Some t)
     key_new = subst (λ x. KeyTold T rep seens builts c (Some x)) (sym z) (KeyTold.key e)
 
     pub key_pick : (u : Bool) → Decides u (On builts t) → KeyTold T rep seens builts c (then_some (not u) t)
@@ -186,10 +186,10 @@ module _ {rep held : List ℕ} {e : Event} {x : ℕ} where
   due_learnt i = DueTold.nothing (λ y j. clash (cc))
 
   module _ (i : e ≡ MK x) {t : ℕ} (z : t ≡ class_at rep x) where
-    due_new : DueTold rep held e (Some t)
+    pub due_new : DueTold rep held e (Some t)
     due_new = subst (λ y. DueTold rep held e (Some y)) (sym (z ∙ ap (λ k. class_at rep (aim k)) (sym i))) DueTold.due
 
-    due_unheld : (On held t → ⊥) → DueTold rep held e None
+    pub due_unheld : (On held t → ⊥) → DueTold rep held e None
     due_unheld n = DueTold.nothing (λ y j o. let same : y ≡ x = cc in n (subst (On held) (ap (class_at rep) same ∙ sym z) o))
 
     pub due_pick : (u : Bool) → Decides u (On held t) → DueTold rep held e (then_some u t)

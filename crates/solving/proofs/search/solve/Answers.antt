@@ -3,9 +3,8 @@ use Rattle.model.specs.Stored.{run_in}
 use Rattle.solving.proofs.SearchLaws.{solves, solves_none}
 use Rattle.solving.proofs.search.solve.Goals as goal
 
-pub returns-in_err-found : goal.returns-in_err-found
-returns-in_err-found c =
-    rw c.from_residual.ensures (solves_none c.args.table.now.formed (run_in c.args.count c.args.run.now) c.start-rep.result c.start-rep.ensures c.in_err-found.ensures)
+pub returns-in-None : goal.returns-in-None
+returns-in-None c = solves_none c.args.table.now.formed (run_in c.args.count c.args.run.now) c.start-rep.result c.start-rep.ensures c.in-None.ensures
 
-pub returns : goal.returns
-returns c = solves c.args.table.now.formed (run_in c.args.count c.args.run.now) c.start-rep.result c.start-rep.ensures c.in_ok-found.ensures c.value_list.ensures
+pub returns-in-Some : goal.returns-in-Some
+returns-in-Some c = solves c.args.table.now.formed (run_in c.args.count c.args.run.now) c.start-rep.result c.start-rep.ensures c.in-Some.ensures c.value_list.ensures
