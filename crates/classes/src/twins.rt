@@ -35,7 +35,7 @@ fn first_same(words: &[u32; 129], c: u8) -> u8
     ensures { Earliest words.now c result }
 {
     let w = words[usize::from(c)];
-    let at = words[..usize::from(c)].iter().position(|x| *x == w);
+    let at = words.iter().position(|x| *x == w);
     at.map_or(c, |d| d as u8)
 }
 

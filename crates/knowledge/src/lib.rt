@@ -118,8 +118,11 @@ fn newly(table: &Table, rep: &Row, seen: &Row, built: &Row, c: usize) -> bool
     if class_within(rep, c) != c || built[c] == 1 {
         return false;
     }
+    if seen[c] == 1 {
+        return true;
+    }
     let k = cell_within(&table.words, c);
-    seen[c] == 1 || is_given(k) || is_made(n, k, rep, built)
+    is_given(k) || is_made(n, k, rep, built)
 }
 
 // The classes of the parts of c, where they are newly seen.
